@@ -1,0 +1,4 @@
+pub mod Numbers
+pub mod Rotation
+pub mod Xor
+pub mod Slices

@@ -1,0 +1,4 @@
+// Words and bytes: what every layer above stands on.
+pub mod numbers;
+pub mod rotation;
+pub mod slices;
