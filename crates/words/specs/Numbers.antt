@@ -1,7 +1,8 @@
 -- Numbers in bytes: the lowest byte first, and the highest byte first.
-use mathlib.Core.List.{List, [], _∷_}
+use mathlib.Core.Path.{_≡_}
+use mathlib.Core.List.{List, [], _∷_, reverse}
 use Prim.Native.Nat.{ℕ, zero, suc, _+_, _*_, _/_, _%_, _^_, _<_}
-use lib.ListN.{getD, reverse}
+use lib.ListN.{length}
 
 -- the number whose bytes are s, the lowest first
 unfoldable pub numberLow : List ℕ → ℕ
@@ -24,6 +25,12 @@ bytesHigh n x = reverse (bytesLow n x)
 abbrev pub byteOf : ℕ → ℕ → ℕ
 byteOf i x = x / 2 ^ (8 * i) % 256
 
--- s holds bytes
-abbrev pub Bytes : List ℕ → Type 0
-Bytes s = (i : ℕ) → getD s i 0 < 256
+-- every element is a byte
+pub data Bytes : List ℕ → Type 0 where
+  none : Bytes []
+  more : {b : ℕ} {s : List ℕ} → b < 256 → Bytes s → Bytes (b ∷ s)
+
+-- n bytes
+pub record Sized (n : ℕ) (s : List ℕ) : Type 0 where
+  pub long : length s ≡ n
+  pub bytes : Bytes s
