@@ -27,19 +27,19 @@ loop-again c =
     let a = c .before .before .before .before .args in
     let v = c .before .before .before .loop .inv in
     let e : 0 + i ≡ i = zero-add i in (
-      omega (arith, ltb-true _ _ (c .before .if1 .taken), v .2),
+      omega (arith, ltb-true, v .2),
       search needs,
       simp length-set (v .2),
       ap (λ l. set l i (getD (a .from .now) i 0)) (v .3)
           ∙ ap (λ k. set (paste (a .to .now) 0 (a .from .now) i) k (getD (a .from .now) i 0)) (sym e)
-          ∙ paste-suc (a .to .now) 0 (a .from .now) i 0 (omega (arith, ltb-true _ _ (c .before .if1 .taken), v .2)) (omega arith)
+          ∙ paste-suc (a .to .now) 0 (a .from .now) i 0 (omega (arith, ltb-true, v .2)) (omega arith)
           ∙ ap (paste (a .to .now) 0 (a .from .now)) (sym (add-one i)),
     )
 
 returns : tie.Need-returns Inv-loop μ-loop
 returns c =
     let v = c .before .before .loop .inv in
-    v .3 ∙ copied-full _ _ (c .before .before .loop .i) (omega (arith, ltb-false _ _ (c .if1 .left), v .2)) (v .1) (v .0)
+    v .3 ∙ copied-full _ _ (c .before .before .loop .i) (omega (arith, ltb-false, v .2)) (v .1) (v .0)
 
 returns-2 : tie.Need-returns-2 Inv-loop μ-loop
 returns-2 c =
