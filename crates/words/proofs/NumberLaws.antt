@@ -76,6 +76,30 @@ pub four-high : (x : ℕ) → bytesHigh 4 x ≡ byteOf 3 x ∷ byteOf 2 x ∷ by
 unfolding bytesHigh
 four-high x = ap reverse (four-low x)
 
+-- the eight bytes of a double word
+pub eight-low : (x : ℕ)
+    → bytesLow 8 x ≡ byteOf 0 x ∷ byteOf 1 x ∷ byteOf 2 x ∷ byteOf 3 x ∷ byteOf 4 x ∷ byteOf 5 x ∷ byteOf 6 x ∷ byteOf 7 x ∷ []
+unfolding bytesLow
+eight-low x =
+    ap₂ _∷_ (byte-is 8 0 x (omega arith)) (ap₂ _∷_ (byte-is 8 1 x (omega arith)) (ap₂ _∷_ (byte-is 8 2 x (omega arith))
+    (ap₂ _∷_ (byte-is 8 3 x (omega arith)) (ap₂ _∷_ (byte-is 8 4 x (omega arith)) (ap₂ _∷_ (byte-is 8 5 x (omega arith))
+    (ap₂ _∷_ (byte-is 8 6 x (omega arith)) (ap₂ _∷_ (byte-is 8 7 x (omega arith)) refl)))))))
+
+pub eight-high : (x : ℕ)
+    → bytesHigh 8 x ≡ byteOf 7 x ∷ byteOf 6 x ∷ byteOf 5 x ∷ byteOf 4 x ∷ byteOf 3 x ∷ byteOf 2 x ∷ byteOf 1 x ∷ byteOf 0 x ∷ []
+unfolding bytesHigh
+eight-high x = ap reverse (eight-low x)
+
+-- only the n lowest bytes count
+pub bytes-mod : (n x : ℕ) → bytesLow n (x % 2 ^ (8 * n)) ≡ bytesLow n x
+bytes-mod n x =
+    let r : Sized n (bytesLow n x) = bytes-sized n x in
+    ap₂ bytesLow (sym (r .long)) (sym (number-bytes n x)) ∙ bytes-number (r .bytes)
+
+pub bytes-mod-high : (n x : ℕ) → bytesHigh n (x % 2 ^ (8 * n)) ≡ bytesHigh n x
+unfolding bytesHigh
+bytes-mod-high n x = ap reverse (bytes-mod n x)
+
 -- the same laws, the highest first
 pub number-bytes-high : (n x : ℕ) → numberHigh (bytesHigh n x) ≡ x % 2 ^ (8 * n)
 unfolding numberHigh bytesHigh
