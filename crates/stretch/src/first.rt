@@ -82,7 +82,10 @@ fn hash_parts(p: &[u8], s: &[u8]) -> Stretcher
     ensures { λ r. ⌜ r ≡ startOf (now (p .entry)) (now (s .entry)) ⌝ }
 {
     let n = (p.len() + s.len() + 8) / 64 + 1;
-    let mut st = Stretcher { v: begin(), count: 0 };
+    let mut st = Stretcher {
+        v: begin(),
+        count: 0,
+    };
     let mut q: usize = 0;
     while q < n {
         let b = block_bytes(p, s, q);

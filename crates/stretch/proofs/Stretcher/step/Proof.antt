@@ -1,22 +1,11 @@
+-- `stretch::Stretcher::step` meets its contract: a hash of 32 bytes is one compression.
+use Rattle.stretch.proofs.Counts.{step-is}
 use borrow.Author.Needs.{needs}
 use Rattle.stretch.proofs.Stretcher.step.Statement.{statement}
 use Rattle.stretch.proofs.Stretcher.step.Tie as tie
-use Rattle.stretch.proofs.Stretcher.step.Reads as reads
-use Rattle.stretch.proofs.Stretcher.step.Lts as lts
-use Rattle.sha256.proofs.compression.again.Reads as again-reads
-use Rattle.std.proofs.num.wrapping_add_u64.Reads as wrapping-add-u64-reads
 
--- src/lib.rt:34:16
-again-requires : tie.Need-again-requires
-again-requires c κs = search needs
-
--- src/lib.rt:35:20
-wrapping-add-u64-requires : tie.Need-wrapping-add-u64-requires
-wrapping-add-u64-requires c κs = search needs
-
--- src/lib.rt:29:5
 returns : tie.Need-returns
-returns c = search needs
+returns c = step-is (c .before .before .before .args .self) (c .before .again .ensures) (c .wrapping-add-u64 .ensures)
 
 pub step-spec : {M : Type 1} → statement M
-step-spec = tie.close (tie.spec again-requires wrapping-add-u64-requires returns)
+step-spec = tie.close (tie.spec (λ c κs. search needs) (λ c κs. search needs) returns)

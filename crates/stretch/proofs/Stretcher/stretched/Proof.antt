@@ -1,41 +1,33 @@
+-- `stretch::Stretcher::stretched` meets its contract. The invariant of its loop: the state after i steps.
+use mathlib.Core.Path.{_≡_, refl, ap, _∙_}
+use Prim.Native.Nat.{_≤_, _-_, _+_}
+use native.Mathlib.Numerals.{add-one}
+use native.Mathlib.Omega.{arith}
+use Rattle.stretch.specs.Stretch.{stepOf, stretchedOf}
 use borrow.Author.Needs.{needs}
 use Rattle.stretch.proofs.Stretcher.stretched.Statement.{statement}
 use Rattle.stretch.proofs.Stretcher.stretched.Tie as tie
-use Rattle.stretch.proofs.Stretcher.stretched.Reads as reads
-use Rattle.stretch.proofs.Stretcher.stretched.Lts as lts
-use Rattle.stretch.proofs.Stretcher.step.Reads as step-reads
 
 abbrev Inv-loop : tie.InvT-loop
-Inv-loop n s₀ i₀ s i = ?
+Inv-loop n s₀ i₀ s i = (i ≤ n) × (s ≡ stretchedOf i s₀)
 
 abbrev μ-loop : tie.MeasureT-loop
-μ-loop n s₀ i₀ s i = ?
+μ-loop n s₀ i₀ s i = n - i
 
--- src/lib.rt:45:9
 loop-holds : tie.Need-loop-holds Inv-loop μ-loop
-loop-holds c = search needs
+unfolding stretchedOf
+loop-holds c = (search needs, refl)
 
--- src/lib.rt:46:13
-step-requires : tie.Need-step-requires Inv-loop μ-loop
-step-requires c κs = search needs
-
--- src/lib.rt:47:13
-add-i : tie.Need-add-i Inv-loop μ-loop
-add-i c = search needs
-
--- src/lib.rt:45:9
-loop-less : tie.Need-loop-less Inv-loop μ-loop
-loop-less c = search needs
-
--- src/lib.rt:45:9
 loop-again : tie.Need-loop-again Inv-loop μ-loop
-loop-again c = search needs
+unfolding stretchedOf
+loop-again c = (search needs, rw add-one (c .step .ensures ∙ ap stepOf (c .before .before .loop .inv .1)))
 
--- src/lib.rt:40:5
 returns : tie.Need-returns Inv-loop μ-loop
-returns c = search needs
+returns c =
+    let e : c .before .loop .i ≡ c .before .before .args .n = omega arith in
+    rw (← e) (c .before .loop .inv .1)
 
 pub stretched-spec : {M : Type 1} → statement M
 stretched-spec =
     tie.close
-    (tie.spec Inv-loop μ-loop loop-holds step-requires add-i loop-less loop-again returns)
+    (tie.spec Inv-loop μ-loop loop-holds (λ c κs. search needs) (λ c. search needs) (λ c. search needs) loop-again returns)

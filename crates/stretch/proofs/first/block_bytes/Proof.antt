@@ -1,51 +1,52 @@
+-- `stretch::first::block_bytes` meets its contract. The invariant of its loop: the bytes passed stand over zeros.
+use mathlib.Core.Path.{_≡_, ap, _∙_}
+use mathlib.Core.List.{_++_}
+use Prim.Native.Nat.{_≤_, _-_, _+_}
+use native.Mathlib.Omega.{arith}
+use lib.ListN.{length, length-append}
+use Rattle.sha256.proofs.Padded.{length-padded}
+use Rattle.sha256.specs.Sha256.{padded}
+use Rattle.stretch.proofs.FirstBlocks.{done, none-done, more, done-long, all}
 use borrow.Author.Needs.{needs}
 use Rattle.stretch.proofs.first.block_bytes.Statement.{statement}
 use Rattle.stretch.proofs.first.block_bytes.Tie as tie
-use Rattle.stretch.proofs.first.block_bytes.Reads as reads
-use Rattle.stretch.proofs.first.block_bytes.Lts as lts
-use Rattle.stretch.proofs.first.padded_byte.Reads as padded-byte-reads
 
 abbrev Inv-loop : tie.InvT-loop
-Inv-loop p s q b₀ i₀ b i = ?
+Inv-loop p s q b₀ i₀ b i = (i ≤ 64) × (length b ≡ 64) × (b ≡ done (padded (p ++ s)) q i)
 
 abbrev μ-loop : tie.MeasureT-loop
-μ-loop p s q b₀ i₀ b i = ?
+μ-loop p s q b₀ i₀ b i = 64 - i
 
--- src/first.rt:67:5
 loop-holds : tie.Need-loop-holds Inv-loop μ-loop
-loop-holds c = search needs
+loop-holds c = let a = c .before .before .args in (search needs, search needs, none-done (padded (a .p .now ++ a .s .now)) (a .q))
 
--- src/first.rt:68:34
 mul-padded-byte : tie.Need-mul-padded-byte Inv-loop μ-loop
-mul-padded-byte c = search needs
+mul-padded-byte c =
+    let s = c .before .before .before .before in
+    let p = length-padded (s .args .p .now ++ s .args .s .now) in
+    let l = length-append (s .args .p .now) (s .args .s .now) in
+    omega (arith, s .pre .0, s .pre .1)
 
--- src/first.rt:68:34
 add-padded-byte : tie.Need-add-padded-byte Inv-loop μ-loop
-add-padded-byte c = search needs
+add-padded-byte c =
+    let s = c .before .before .before .before in
+    let p = length-padded (s .args .p .now ++ s .args .s .now) in
+    let l = length-append (s .args .p .now) (s .args .s .now) in
+    omega (arith, s .pre .0, s .pre .1)
 
--- src/first.rt:68:16
-padded-byte-requires : tie.Need-padded-byte-requires Inv-loop μ-loop
-padded-byte-requires c κs = search needs
-
--- src/first.rt:68:9
-array-write-b : tie.Need-array-write-b Inv-loop μ-loop
-array-write-b c = search needs
-
--- src/first.rt:69:9
-add-i : tie.Need-add-i Inv-loop μ-loop
-add-i c = search needs
-
--- src/first.rt:67:5
-loop-less : tie.Need-loop-less Inv-loop μ-loop
-loop-less c = search needs
-
--- src/first.rt:67:5
 loop-again : tie.Need-loop-again Inv-loop μ-loop
-loop-again c = search needs
+loop-again c =
+    let a = c .before .before .before .before .before .args in
+    let h = c .before .before .before .before .before .pre .1 in
+    let l = padded (a .p .now ++ a .s .now) in
+    let i = c .before .before .loop .i in
+    let m = more l (a .q) h _ i (omega arith) (c .before .before .loop .inv .2) (c .padded-byte .ensures) in
+    (search needs, ap length m ∙ done-long l (a .q) h (i + 1) (omega arith), m)
 
--- src/first.rt:61:1
 returns : tie.Need-returns Inv-loop μ-loop
-returns c = search needs
+returns c =
+    let a = c .before .before .before .before .args in
+    c .before .loop .inv .2 ∙ all (padded (a .p .now ++ a .s .now)) (a .q) (c .before .before .before .before .pre .1) (c .before .loop .i) (omega arith)
 
 pub block-bytes-spec : {M : Type 1} → statement M
 block-bytes-spec =
@@ -56,9 +57,9 @@ block-bytes-spec =
     loop-holds
     mul-padded-byte
     add-padded-byte
-    padded-byte-requires
-    array-write-b
-    add-i
-    loop-less
+    (λ c κs. search needs)
+    (λ c. search needs)
+    (λ c. search needs)
+    (λ c. search needs)
     loop-again
     returns)
