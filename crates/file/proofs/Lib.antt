@@ -1,0 +1,10 @@
+pub mod Glue
+pub mod Tables
+pub mod PartLaws
+pub mod Markers
+pub mod Passed
+pub mod Accepted
+pub mod Written
+pub mod Alike
+pub mod Told
+pub mod Prefix

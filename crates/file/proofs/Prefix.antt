@@ -1,0 +1,74 @@
+-- No proper prefix of a safe is a safe: its marker would stand, aligned, within the encrypted body of the whole, where no block is the marker.
+use Prim.Native.Nat.{ℕ, _+_, _-_, _*_, _/_, _%_, _<_, _≤_}
+use mathlib.Core.Path.{_≡_, refl, sym, ap, _∙_}
+use mathlib.Core.List.{List, _++_}
+use native.Mathlib.Omega.{arith}
+use lib.ListN.{length, take, drop, length-take, length-drop, take-append-drop}
+use lib.Seq.{drop-drop, take-at, drop-at, take-append-le, drop-append-le, length-take-le}
+use Rattle.words.specs.Numbers.{Bytes}
+use Rattle.file.specs.Layout.{marker}
+use Rattle.file.specs.Edition.{Edition, Laws}
+use Rattle.file.specs.Description.{IsSafe, cbc}
+use Rattle.file.specs.Reading.{readingOf}
+use Rattle.file.proofs.Markers.{marker-sized}
+use Rattle.file.proofs.Accepted.{Answers, file-long, tail-is, cbc-sized, Read, read-safe}
+
+-- a part of a prefix is a part of the whole
+in-prefix : (k j m : ℕ) (l : List ℕ) → k ≤ length l → j + m ≤ k → take m (drop j (take k l)) ≡ take m (drop j l)
+in-prefix k j m l h i =
+    let n = length-take-le k l h in
+    let d = length-drop j (take k l) in
+    sym
+    (ap (λ (x : List ℕ). take m (drop j x)) (sym (take-append-drop k l))
+    ∙ ap (take m) (drop-append-le j (take k l) (drop k l) (omega arith))
+    ∙ take-append-le m (drop j (take k l)) (drop k l) (omega arith))
+
+-- block i of what stands from offset 152 on
+abbrev block : ℕ → List ℕ → List ℕ
+block i file = take 16 (drop (16 * i) (drop 152 file))
+
+module _ (E : Edition) (X : Laws E) where
+  module _ (pass file salt : List ℕ) (iter : ℕ) (K L iv body : List ℕ) (z : IsSafe E pass file salt iter K L iv body) where
+    abbrev c : List ℕ
+    c = cbc E K iv body
+
+    long : length c ≡ 16 * (length body / 16)
+    long =
+        let w = z .body-whole in
+        cbc-sized E X K (z .K-sized) iv (z .iv-sized) 0 (length body / 16) body refl (record { long = omega arith; bytes = z .body-bytes }) .long
+
+    -- the marker follows the body
+    behind : block (length body / 16) file ≡ marker
+    behind =
+        let t = tail-is E X pass file salt iter K L iv body z in
+        ap (λ (l : List ℕ). take 16 (drop (16 * (length body / 16)) l)) t
+        ∙ ap (take 16) (drop-at c (marker ++ E .hmac L (z .covered)) (16 * (length body / 16)) long)
+        ∙ take-at marker (E .hmac L (z .covered)) 16 marker-sized
+
+    -- and is no block of it
+    within : (i : ℕ) → i < length body / 16 → block i file ≡ marker → ⊥
+    within i h e =
+        let t = tail-is E X pass file salt iter K L iv body z in
+        let n = long in
+        let d = length-drop (16 * i) c in
+        z .no-marker i h
+        (sym
+        (ap (λ (l : List ℕ). take 16 (drop (16 * i) l)) t
+        ∙ ap (take 16) (drop-append-le (16 * i) c (marker ++ E .hmac L (z .covered)) (omega arith))
+        ∙ take-append-le 16 (drop (16 * i) c) (marker ++ E .hmac L (z .covered)) (omega arith))
+        ∙ e)
+
+  pub no-prefix : (pass pass′ file salt salt′ : List ℕ) (iter iter′ k : ℕ) (K L iv body K′ L′ iv′ body′ : List ℕ)
+      → IsSafe E pass file salt iter K L iv body → k < length file → IsSafe E pass′ (take k file) salt′ iter′ K′ L′ iv′ body′ → ⊥
+  no-prefix pass pass′ file salt salt′ iter iter′ k K L iv body K′ L′ iv′ body′ z h z′ =
+      let l = file-long E X pass file salt iter K L iv body z in
+      let l′ = file-long E X pass′ (take k file) salt′ iter′ K′ L′ iv′ body′ z′ in
+      let n = length-take-le k file (omega arith) in
+      let w = z .body-whole in
+      let w′ = z′ .body-whole in
+      let i : ℕ = length body′ / 16 in
+      let moved : block i (take k file) ≡ block i file =
+      ap (take 16) (drop-drop (16 * i) 152 (take k file))
+      ∙ in-prefix k (152 + 16 * i) 16 file (omega arith) (omega arith)
+      ∙ ap (take 16) (sym (drop-drop (16 * i) 152 file)) in
+      within pass file salt iter K L iv body z i (omega arith) (sym moved ∙ behind pass′ (take k file) salt′ iter′ K′ L′ iv′ body′ z′)

@@ -1,0 +1,99 @@
+-- What a reading answers, and what it leaves in the workspace (document 01, "Numbers of refusal").
+use Prim.Native.Nat.{ℕ, _+_, _-_, _/_, _%_}
+use mathlib.Core.Bool.{Bool, not, _||_}
+use mathlib.Core.List.{List, [], _∷_, _++_}
+use lib.Dec.{ltb, eqb}
+use lib.ListN.{length, take, drop}
+use Rattle.words.specs.Numbers.{numberLow}
+use Rattle.words.specs.Slices.{zeros}
+use Rattle.chain.specs.Modes.{ecbD, cbcD}
+use Rattle.chain.specs.Opening.{Opening, opening, step, run}
+use Rattle.file.specs.Layout.{Parts, split, tag, differ, firstMarker}
+use Rattle.file.specs.Refusals.{Test, refuse-if, deciding}
+use Rattle.file.specs.Edition.{Edition, Stretched}
+
+-- an answer: 0 or the number of the refusal, the keys, the counts of header fields and records, the two counts of work, and the body
+pub record Report : Type 0 where
+  pub number : ℕ
+  pub keyK : List ℕ
+  pub keyL : List ℕ
+  pub headers : ℕ
+  pub records : ℕ
+  pub compressions : ℕ
+  pub blocks : ℕ
+  pub body : List ℕ
+
+-- refused: keys and counts zero, and no body
+unfoldable pub refused : ℕ → ℕ → ℕ → Report
+refused n c b = record { number = n; keyK = zeros 32; keyL = zeros 32; headers = 0; records = 0; compressions = c; blocks = b; body = [] }
+
+-- the workspace, of n bytes, holds the body and zeros after it
+unfoldable pub workspaceOf : ℕ → Report → List ℕ
+workspaceOf n r = r .body ++ zeros (n - length (r .body))
+
+-- 1: length under 232, over 4,194,304, or length - 200 no multiple of 16
+unfoldable pub badLength : ℕ → Bool
+badLength n = ltb n 232 || (ltb 4194304 n || not (eqb ((n - 200) % 16) 0))
+
+module _ (E : Edition) where
+  -- 1 to 7: before any work, where the file has the parts p, and n blocks of body
+  unfoldable pub earlyTests : Parts → ℕ → (file passphrase : List ℕ) (ceiling room : ℕ) → List Test
+  earlyTests p n file passphrase ceiling room =
+      refuse-if 1 (badLength (length file))
+      ∷ refuse-if 2 (ltb 1024 (length passphrase))
+      ∷ refuse-if 3 (ltb room (length file - 200))
+      ∷ refuse-if 4 (differ (p .tag) tag)
+      ∷ refuse-if 5 (ltb (numberLow (p .iter)) (E .floor))
+      ∷ refuse-if 6 (ltb ceiling (numberLow (p .iter)))
+      ∷ refuse-if 7 (not (eqb (firstMarker (n + 3) (drop 152 file)) n))
+      ∷ []
+
+  -- the two keys decrypted; then the body, whose count goes on from theirs
+  unfoldable pub keysOpened : (P′ keys : List ℕ) → Opening
+  keysOpened P′ keys = run (step (ecbD (E .cipher) P′)) 4 (opening (zeros 16) keys 0)
+
+  unfoldable pub bodyOpened : (K iv : List ℕ) → ℕ → List ℕ → ℕ → Opening
+  bodyOpened K iv n cipher count = run (step (cbcD (E .cipher) K)) n (opening iv cipher count)
+
+  abbrev pub keyK : Parts → Stretched → List ℕ
+  keyK p s = take 32 (keysOpened (s .key) (p .keys) .done)
+
+  abbrev pub keyL : Parts → Stretched → List ℕ
+  keyL p s = drop 32 (keysOpened (s .key) (p .keys) .done)
+
+  -- the whole body decrypted
+  abbrev pub bodyOf : Parts → Stretched → ℕ → Opening
+  bodyOf p s n = bodyOpened (keyK p s) (p .iv) n (p .cipher) (keysOpened (s .key) (p .keys) .count)
+
+  -- accepted: the report's counts are those of the last states
+  unfoldable pub accepted : (K L : List ℕ) → ℕ → Opening → Report
+  accepted K L c o =
+      record {
+        number = 0;
+        keyK = K;
+        keyL = L;
+        headers = E .headers (o .done);
+        records = E .records (o .done);
+        compressions = c;
+        blocks = o .count;
+        body = o .done;
+      }
+
+  -- 9: body not well formed, or HMAC differs
+  unfoldable pub bodyTests : (L mac body : List ℕ) → List Test
+  bodyTests L mac body = refuse-if 9 (not (E .wellFormed body)) ∷ refuse-if 9 (differ (E .hmac L (E .covered body)) mac) ∷ []
+
+  unfoldable pub judged : (K L mac : List ℕ) → ℕ → Opening → Report
+  judged K L mac c o = deciding (λ k. refused k c (o .count)) (bodyTests L mac (o .done)) (accepted K L c o)
+
+  -- 8: SHA-256 of P' differs
+  unfoldable pub checked : Parts → Stretched → ℕ → Report
+  checked p s n =
+      deciding (λ k. refused k (s .count) 0) (refuse-if 8 (differ (s .check) (p .check)) ∷ [])
+      (judged (keyK p s) (keyL p s) (p .mac) (s .count) (bodyOf p s n))
+
+  unfoldable pub readingOf : (file passphrase : List ℕ) (ceiling room : ℕ) → Report
+  readingOf file passphrase ceiling room =
+      let p = split file in
+      let n = (length file - 200) / 16 in
+      deciding (λ k. refused k 0 0) (earlyTests p n file passphrase ceiling room) (checked p (E .stretched passphrase (p .salt) (numberLow (p .iter))) n)
