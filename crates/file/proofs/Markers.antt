@@ -6,6 +6,7 @@ use mathlib.Core.List.{List, [], _∷_, _++_}
 use native.Mathlib.Omega.{arith}
 use borrow.Author.Tests.{not-true}
 use lib.ListN.{length, take, drop, length-drop}
+use lib.Dec.{eqb, eqb·zero-suc, eqb·suc-suc}
 use lib.Seq.{drop-drop, take-at, drop-at, take-append-le, drop-append-le}
 use Rattle.words.specs.Slices.{same}
 use Rattle.words.proofs.SliceLaws.{same-true, same-refl}
@@ -84,3 +85,62 @@ each-clear zero l h = refl
 each-clear (suc n) l h =
     rw (apart (take 16 l) marker (h 0 (omega arith)))
     (each-clear n (drop 16 l) (λ j hj e. h (suc j) (omega arith) (rw (next-block j l) e)))
+
+-- the scan: what is found from block j on, where none before it is the marker
+abbrev pub Scanned : ℕ → List ℕ → ℕ → Type 0
+Scanned n l j = firstMarker n l ≡ j + firstMarker (n - j) (drop (16 * j) l)
+
+pub scan-start : (n : ℕ) (l : List ℕ) → Scanned n l 0
+scan-start n l = let e : n - 0 ≡ n = omega arith in rw e (omega arith)
+
+scan-here : (m : ℕ) (l : List ℕ) → same (take 16 l) marker ≡ true → firstMarker (suc m) l ≡ 0
+unfolding firstMarker
+scan-here m l e = rw e
+
+scan-past : (m : ℕ) (l : List ℕ) → same (take 16 l) marker ≡ false → firstMarker (suc m) l ≡ suc (firstMarker m (drop 16 l))
+unfolding firstMarker
+scan-past m l e = rw e
+
+scan-end : (l : List ℕ) → firstMarker 0 l ≡ 0
+unfolding firstMarker
+scan-end l = refl
+
+pub scan-stops : (n j : ℕ) (l : List ℕ) → j < n → Scanned n l j → same (take 16 (drop (16 * j) l)) marker ≡ true → j ≡ firstMarker n l
+scan-stops n j l h s e =
+    let k : n - j ≡ suc (n - (j + 1)) = omega arith in
+    let z : firstMarker (n - j) (drop (16 * j) l) ≡ 0 = ap (λ (m : ℕ). firstMarker m (drop (16 * j) l)) k ∙ scan-here (n - (j + 1)) (drop (16 * j) l) e in
+    omega arith
+
+pub scan-goes : (n j : ℕ) (l : List ℕ) → j < n → Scanned n l j → same (take 16 (drop (16 * j) l)) marker ≡ false → Scanned n l (j + 1)
+scan-goes n j l h s e =
+    let k : n - j ≡ suc (n - (j + 1)) = omega arith in
+    let i : 16 * j + 16 ≡ 16 * (j + 1) = omega arith in
+    let z : firstMarker (n - j) (drop (16 * j) l) ≡ suc (firstMarker (n - (j + 1)) (drop (16 * (j + 1)) l)) =
+    ap (λ (m : ℕ). firstMarker m (drop (16 * j) l)) k
+    ∙ scan-past (n - (j + 1)) (drop (16 * j) l) e
+    ∙ ap (λ (x : List ℕ). suc (firstMarker (n - (j + 1)) x)) (drop-drop 16 (16 * j) l ∙ ap (λ (m : ℕ). drop m l) i) in
+    omega arith
+
+pub scan-ends : (n j : ℕ) (l : List ℕ) → n ≤ j → j ≤ n → Scanned n l j → n ≡ firstMarker n l
+scan-ends n j l h k s =
+    let e : n - j ≡ 0 = omega arith in
+    let z : firstMarker (n - j) (drop (16 * j) l) ≡ 0 = ap (λ (m : ℕ). firstMarker m (drop (16 * j) l)) e ∙ scan-end (drop (16 * j) l) in
+    omega arith
+
+-- the block, as the code takes it
+pub block-same : (j : ℕ) (l m : List ℕ) {b t : Bool} → b ≡ same (take (16 * j + 16 - 16 * j) (drop (16 * j) l)) m → m ≡ marker → b ≡ t
+    → same (take 16 (drop (16 * j) l)) marker ≡ t
+block-same j l m e f g =
+    let k : 16 ≡ 16 * j + 16 - 16 * j = omega arith in
+    ap (λ (n : ℕ). same (take n (drop (16 * j) l)) marker) k ∙ ap (same (take (16 * j + 16 - 16 * j) (drop (16 * j) l))) (sym f) ∙ sym e ∙ g
+
+-- none of n blocks is the marker exactly where the scan comes to n
+first-clear : (b : Bool) (k n : ℕ) → eqb (cond b 0 (suc k)) (suc n) ≡ not b && eqb k n
+first-clear true k n = eqb·zero-suc n
+first-clear false k n = eqb·suc-suc k n
+
+pub clear-is : (n : ℕ) (l : List ℕ) → eqb (firstMarker n l) n ≡ clear n l
+unfolding firstMarker clear
+clear-is zero l = refl
+clear-is (suc n) l =
+    first-clear (same (take 16 l) marker) (firstMarker n (drop 16 l)) n ∙ ap (λ (b : Bool). not (same (take 16 l) marker) && b) (clear-is n (drop 16 l))

@@ -41,3 +41,19 @@ first-between a b k h (here {t = t} {ts = us} n e) =
 first-between a b k h (later {t = t} {ts = us} e f) =
     let g = and-true (leb a (t .number)) (leb (t .number) b && between a b us) h in
     first-between a b k (and-true (leb (t .number) b) (between a b us) (g .1) .1) f
+
+-- a table that comes to a number, with 0 where all pass, decides everything else that is made of it
+module _ {A : Type 0} (refuse : ℕ → A) (y : A) (b : ℕ) (ts : List Test) (r : between 1 b ts ≡ true) where
+  pub by-zero : {k : ℕ} → k ≡ deciding (λ (n : ℕ). n) ts 0 → k ≡ 0 → deciding refuse ts y ≡ y
+  by-zero e z = go (decide (λ (n : ℕ). n) 0 ts)
+    where
+      go : Decided (λ (n : ℕ). n) ts 0 → deciding refuse ts y ≡ y
+      go (passes p q) = all-pass refuse y ts p
+      go (stops m f q) = let g = first-between 1 b m {ts = ts} r f in absurd (omega arith)
+
+  pub by-number : {k : ℕ} → k ≡ deciding (λ (n : ℕ). n) ts 0 → 1 ≤ k → deciding refuse ts y ≡ refuse k
+  by-number {k = k} e h = go (decide (λ (n : ℕ). n) 0 ts)
+    where
+      go : Decided (λ (n : ℕ). n) ts 0 → deciding refuse ts y ≡ refuse k
+      go (passes p q) = absurd (omega arith)
+      go (stops m f q) = first-stops refuse y m ts f ∙ ap refuse (sym q ∙ sym e)

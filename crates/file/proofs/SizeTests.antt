@@ -1,0 +1,16 @@
+-- The two tests of a length, each by its three parts.
+use mathlib.Core.Path.{_≡_, refl, sym, ap, _∙_}
+use mathlib.Core.Bool.{Bool, true, false, not, _||_}
+use Prim.Native.Nat.{ℕ, _-_, _%_, _<_, _≤_}
+use lib.Dec.{ltb, eqb}
+use borrow.Author.Tests.{lt-ltb, le-ltb}
+
+-- below, above, or between and then by c
+pub below : (n a b : ℕ) (c : Bool) → n < a → true ≡ ltb n a || (ltb b n || not c)
+below n a b c h = rw (lt-ltb n a h)
+
+pub above : (n a b : ℕ) (c : Bool) → a ≤ n → b < n → true ≡ ltb n a || (ltb b n || not c)
+above n a b c h k = rw (le-ltb n a h, lt-ltb b n k)
+
+pub inside : (n a b : ℕ) (c : Bool) → a ≤ n → n ≤ b → not c ≡ ltb n a || (ltb b n || not c)
+inside n a b c h k = rw (le-ltb n a h, le-ltb b n k)
