@@ -1,0 +1,4 @@
+pub mod Table
+mod Shapes
+pub mod Places
+pub mod Outcomes
