@@ -1,3 +1,14 @@
+use Prim.Native.Nat.{ℕ, _+_}
+use lib.ListN.{take, drop}
+use mathlib.Core.Path.{_≡_, _∙_, sym, ap}
+use native.Mathlib.Nat.{add-sub-cancel-left}
+use Rattle.words.specs.Numbers.{numberLow}
+use Rattle.text.proofs.Tests.{tests}
+use Rattle.fields.specs.Stored.{roomOf}
+use Rattle.fields.specs.Walk.{walkOf, lenAt, kindAt}
+use Rattle.fields.specs.Value.{valueOf}
+use Rattle.fields.proofs.Places.{four-at}
+use Rattle.fields.proofs.Outcomes.{room-fill, short, ended, took, built}
 use borrow.Author.Needs.{needs}
 use Rattle.fields.proofs.walk.Statement.{statement}
 use Rattle.fields.proofs.walk.Tie as tie
@@ -11,19 +22,23 @@ use Rattle.words.proofs.numbers.low.Reads as low-reads
 
 -- src/lib.rt:70:9
 returns : tie.Need-returns
-returns c = search needs
+unfolding walkOf
+returns c = search tests
 
 -- src/lib.rt:73:9
 returns-2 : tie.Need-returns-2
-returns-2 c = search needs
+unfolding walkOf
+returns-2 c = search tests
 
 -- src/lib.rt:76:9
 returns-3 : tie.Need-returns-3
-returns-3 c = search needs
+unfolding walkOf
+returns-3 c = search tests
 
 -- src/lib.rt:79:9
 returns-4 : tie.Need-returns-4
-returns-4 c = search needs
+unfolding walkOf
+returns-4 c = search tests
 
 -- src/lib.rt:81:35
 shared-slice-read-low : tie.Need-shared-slice-read-low
@@ -83,7 +98,12 @@ add-room-2 c = search needs
 
 -- src/lib.rt:85:9
 returns-5 : tie.Need-returns-5
-returns-5 c = search needs
+returns-5 c =
+    let s = c .before .before .before .before .before .before .before .before .before .before .before .before .before .args .body .now in
+    let u = c .before .before .before .before .before .before .before .before .before .before .before .before .before .args .c in
+    let len : c .before .before .before .low .result ≡ lenAt s (u .place) = c .before .before .before .low .ensures ∙ ap numberLow (sym (four-at s (u .place) (search needs))) in
+    let big : 5 + c .before .before .before .low .result + c .before .fill-for .result ≡ roomOf (lenAt s (u .place)) = ap (_+_ (5 + c .before .before .before .low .result)) (c .before .fill-for .ensures) ∙ room-fill (c .before .before .before .low .result) ∙ ap roomOf len in
+    sym (short s u (search needs) (search needs) (c .before .before .before .before .before .before .before .before .before .if3 .left) (search needs) (rw big at (c .if5 .taken)))
 
 -- src/lib.rt:87:8
 end-with-data-requires : tie.Need-end-with-data-requires
@@ -91,7 +111,12 @@ end-with-data-requires c κs = search needs
 
 -- src/lib.rt:88:9
 returns-6 : tie.Need-returns-6
-returns-6 c = search needs
+returns-6 c =
+    let s = c .before .before .before .before .before .before .before .before .before .before .before .before .before .before .before .args .body .now in
+    let u = c .before .before .before .before .before .before .before .before .before .before .before .before .before .before .before .args .c in
+    let len : c .before .before .before .before .before .low .result ≡ lenAt s (u .place) = c .before .before .before .before .before .low .ensures ∙ ap numberLow (sym (four-at s (u .place) (search needs))) in
+    let big : 5 + c .before .before .before .before .before .low .result + c .before .before .before .fill-for .result ≡ roomOf (lenAt s (u .place)) = ap (_+_ (5 + c .before .before .before .before .before .low .result)) (c .before .before .before .fill-for .ensures) ∙ room-fill (c .before .before .before .before .before .low .result) ∙ ap roomOf len in
+    sym (ended s u (search needs) (search needs) (c .before .before .before .before .before .before .before .before .before .before .before .if3 .left) (search needs) (rw big at (c .before .before .if5 .left)) (rw len at (sym (c .before .end-with-data .ensures) ∙ c .if6 .taken)))
 
 -- src/lib.rt:90:17
 add-start : tie.Need-add-start
@@ -127,7 +152,14 @@ passed-requires c κs = search needs
 
 -- src/lib.rt:63:1
 returns-7 : tie.Need-returns-7
-returns-7 c = search needs
+returns-7 c =
+    let s = c .before .before .before .before .before .before .before .before .before .before .before .before .before .before .before .before .before .before .args .body .now in
+    let u = c .before .before .before .before .before .before .before .before .before .before .before .before .before .before .before .before .before .before .args .c in
+    let len : c .before .before .before .before .before .before .before .before .low .result ≡ lenAt s (u .place) = c .before .before .before .before .before .before .before .before .low .ensures ∙ ap numberLow (sym (four-at s (u .place) (search needs))) in
+    let big : 5 + c .before .before .before .before .before .before .before .before .low .result + c .before .before .before .before .before .before .fill-for .result ≡ roomOf (lenAt s (u .place)) = ap (_+_ (5 + c .before .before .before .before .before .before .before .before .low .result)) (c .before .before .before .before .before .before .fill-for .ensures) ∙ room-fill (c .before .before .before .before .before .before .before .before .low .result) ∙ ap roomOf len in
+    let t = took s u (search needs) (search needs) (c .before .before .before .before .before .before .before .before .before .before .before .before .before .before .if3 .left) (search needs) (rw big at (c .before .before .before .before .before .if5 .left)) (rw len at (sym (c .before .before .before .before .end-with-data .ensures) ∙ c .before .before .before .if6 .left)) in
+    let part = add-sub-cancel-left (u .place + 5) (c .before .before .before .before .before .before .before .before .low .result) ∙ len in
+    built s u _ _ _ _ t len big (c .before .value-of .ensures ∙ ap (λ (m : ℕ). valueOf (u .«in_record») (kindAt s (u .place)) (take m (drop (u .place + 5) s))) part) (c .passed .ensures)
 
 pub walk-spec : {M : Type 1} → statement M
 walk-spec =
