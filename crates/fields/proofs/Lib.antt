@@ -2,3 +2,5 @@ pub mod Table
 mod Shapes
 pub mod Places
 pub mod Outcomes
+mod Parts
+mod Appends

@@ -1,3 +1,6 @@
+use Rattle.fields.proofs.Parts.{five}
+use lib.ListN.{length-set}
+use native.Mathlib.Omega.{arith}
 use borrow.Author.Needs.{needs}
 use Rattle.fields.proofs.store.head.Statement.{statement}
 use Rattle.fields.proofs.store.head.Tie as tie
@@ -39,7 +42,7 @@ slice-write-part-4 c = search needs
 
 -- src/store.rt:28:5
 slice-write-part-5 : tie.Need-slice-write-part-5
-slice-write-part-5 c = search needs
+slice-write-part-5 c = simp length-set (omega arith)
 
 -- src/store.rt:19:1
 same-length : tie.Need-same-length
@@ -47,7 +50,7 @@ same-length c = search needs
 
 -- src/store.rt:19:1
 returns : tie.Need-returns
-returns c = search needs
+returns c = five (c .before .before .before .before .before .args .part .now) (c .before .before .before .before .before .args .len) _ _ _ _ _ (c .before .before .before .before .before .pre) (c .before .before .before .wide-byte .ensures) (c .before .before .wide-byte2 .ensures) (c .before .wide-byte3 .ensures) (c .wide-byte4 .ensures)
 
 pub head-spec : {M : Type 1} → statement M
 head-spec =

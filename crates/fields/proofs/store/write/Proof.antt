@@ -1,3 +1,8 @@
+use Prim.Native.Nat.{_+_}
+use native.Mathlib.Nat.{add-sub-cancel-left}
+use native.Mathlib.Omega.{arith}
+use lib.ListN.{length}
+use Rattle.fields.proofs.Parts.{written}
 use borrow.Author.Needs.{needs}
 use Rattle.fields.proofs.store.write.Statement.{statement}
 use Rattle.fields.proofs.store.write.Tie as tie
@@ -68,7 +73,12 @@ same-length c = search needs
 
 -- src/store.rt:32:1
 returns : tie.Need-returns
-returns c = search needs
+returns c =
+    let a = c .before .before .before .before .before .before .before .before .before .before .before .before .before .before .before .args in
+    let n = length (a .content .now) in
+    written (a .part .now) (a .kind) (a .content .now) (a .fill .now) _ _ _ _ _ (c .before .before .before .before .before .before .before .before .before .before .before .before .before .before .before .pre)
+    (add-sub-cancel-left 5 n) (add-sub-cancel-left (5 + n) (length (a .fill .now)))
+    (c .before .before .before .before .before .before .before .before .before .before .head .ensures) (c .before .before .before .before .before .before .copy .ensures) (c .before .before .copy2 .ensures)
 
 pub write-spec : {M : Type 1} → statement M
 write-spec =
