@@ -4,3 +4,5 @@ pub mod Places
 pub mod Outcomes
 mod Parts
 mod Appends
+pub mod Back
+pub mod Numbers

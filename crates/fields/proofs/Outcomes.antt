@@ -53,7 +53,7 @@ pub at-end : (s : List ℕ) (c : Cursor) → c .place % 16 ≡ 0 → c .place �
 unfolding walkOf
 at-end s c a b = let l : c .place ≤ length s = omega arith in search tests
 
-neither : (a b : Bool) → (a || b) ≡ false → (a ≡ false) × (b ≡ false)
+pub neither : (a b : Bool) → (a || b) ≡ false → (a ≡ false) × (b ≡ false)
 neither true b h = absurd (let z : _≡_ {A = ℕ} 0 1 = cc in omega arith)
 neither false b h = (refl, h)
 
