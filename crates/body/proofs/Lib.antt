@@ -1,0 +1,4 @@
+pub mod Division
+pub mod Visits
+mod Tests
+pub mod Decided

@@ -6,7 +6,6 @@ use lib.Dec.{eqb, leb}
 use lib.ListN.{getD, set, replicate}
 use Rattle.fields.specs.Value.{among}
 use Rattle.body.specs.WellFormed.{onceInHeader}
-use Rattle.fields.specs.declared.Cursor.{Cursor}
 use Rattle.body.specs.Sections.{runs}
 use Rattle.body.specs.Decision.{fieldsOf, exactFrom, endsEmpty, goodRuns, headersOf, recordsOf}
 use Rattle.body.specs.declared.tally.Section.{Section}
@@ -50,10 +49,6 @@ headerField r k = cond r 0 (cond (eqb k 0xff) 0 1)
 
 abbrev pub recordEnd : Bool → ℕ → ℕ
 recordEnd r k = cond r (cond (eqb k 0xff) 1 0) 0
-
--- the cursor at a body's start
-abbrev pub start : Cursor
-start = record { place = 0; «in_record» = false }
 
 -- all but Version
 unfoldable pub sectionsOf : List ℕ → Judged

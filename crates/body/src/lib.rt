@@ -10,7 +10,7 @@ ghost use mathlib.Core.Bool.{cond};
 ghost use Prim.Native.Nat.{_+_, _<_, _^_};
 ghost use Rattle.body.specs.Decision.{fieldsOf, versionFirst, judgedOf};
 ghost use Rattle.body.specs.Find.{isUuid, findOf};
-ghost use Rattle.body.specs.Tally.{sectionsOf, start as startOf};
+ghost use Rattle.body.specs.Tally.{sectionsOf};
 
 // How many header fields and records a body has, or that it is not well formed.
 pub enum Judged {
@@ -29,21 +29,11 @@ pub struct Found {
     pub sought: Sought,
 }
 
-// The cursor at a body's start.
-pub fn start() -> Cursor
-    ensures { λ r. ⌜ r ≡ startOf ⌝ }
-{
-    Cursor {
-        place: 0,
-        in_record: false,
-    }
-}
-
 // The first field is Version, of 2 bytes, and the second of them is 03.
 fn version_first(body: &[u8]) -> bool
     ensures { λ r. ⌜ r ≡ versionFirst (fieldsOf (now (body .entry))) ⌝ }
 {
-    let Walked::Took(f, _) = fields::walk(body, start()) else {
+    let Walked::Took(f, _) = fields::walk(body, fields::start()) else {
         return false;
     };
     if f.kind != 0x00 {
@@ -59,7 +49,7 @@ fn version_first(body: &[u8]) -> bool
 fn sections(body: &[u8]) -> Judged
     ensures { λ r. ⌜ r ≡ sectionsOf (now (body .entry)) ⌝ }
 {
-    let mut c = start();
+    let mut c = fields::start();
     let mut x = tally::empty(true);
     let mut headers: usize = 0;
     let mut records: usize = 0;

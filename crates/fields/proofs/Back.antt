@@ -53,6 +53,12 @@ module _ (a : List ℕ) (f : Stored) (z : List ℕ) where
   pub data-back : length (f .content) < 2 ^ 32 → dataAt (a ++ (bytesOf f ++ z)) (length a) ≡ f .content
   data-back h = rw (len-back h, from-data) (take-at (f .content) (f .fill ++ z) (length (f .content)) refl)
 
+  pub fill-back : drop (length a + (5 + length (f .content))) (a ++ (bytesOf f ++ z)) ≡ f .fill ++ z
+  fill-back =
+      let e : length a + (5 + length (f .content)) ≡ length a + 5 + length (f .content) = omega arith in
+      rw (e, ← drop-drop (length (f .content)) (length a + 5) (a ++ (bytesOf f ++ z)), from-data)
+      (drop-at (f .content) (f .fill ++ z) (length (f .content)) refl)
+
 -- a stored field as the walk shows it, at place p, in a record or not
 abbrev pub shown : Bool → ℕ → Stored → Field
 shown r p f = record { kind = f .kind; place = p; len = length (f .content); value = valueOf r (f .kind) (f .content) }

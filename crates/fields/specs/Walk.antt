@@ -1,6 +1,6 @@
 -- The walk: the field at a cursor and the cursor after it, or the end, or a refusal (document 01, "Fields and the well-formed body" and "Numbers of refusal").
 use Prim.Native.Nat.{ℕ, _+_, _-_, _%_}
-use mathlib.Core.Bool.{Bool, cond, not, _||_, _&&_}
+use mathlib.Core.Bool.{Bool, false, cond, not, _||_, _&&_}
 use mathlib.Core.List.{List}
 use lib.Dec.{ltb, eqb}
 use lib.ListN.{length, getD, take, drop}
@@ -11,6 +11,10 @@ use Rattle.fields.specs.declared.Cursor.{Cursor}
 use Rattle.fields.specs.declared.Field.{Field}
 use Rattle.fields.specs.declared.Walked.{Walked}
 use Rattle.fields.specs.declared.Walked.the-variants.{Took, Finished, Misplaced, Broken}
+
+-- at a body's start: at place 0, in the header
+abbrev pub start : Cursor
+start = record { place = 0; «in_record» = false }
 
 -- what stands at place p of s: the length, the type, the data
 abbrev pub lenAt : List ℕ → ℕ → ℕ

@@ -10,7 +10,7 @@ ghost use mathlib.Core.Path.{_≡_};
 ghost use mathlib.Core.Bool.{_||_};
 ghost use lib.Dec.{eqb};
 ghost use Rattle.fields.specs.Stored.{fillOf};
-ghost use Rattle.fields.specs.Walk.{endWithData, walkOf};
+ghost use Rattle.fields.specs.Walk.{start as startOf, endWithData, walkOf};
 
 // Where the walk stands, and whether it is in a record or still in the header.
 pub struct Cursor {
@@ -31,6 +31,16 @@ pub enum Walked {
     Finished,
     Misplaced,
     Broken,
+}
+
+// The cursor at a body's start.
+pub fn start() -> Cursor
+    ensures { λ r. ⌜ r ≡ startOf ⌝ }
+{
+    Cursor {
+        place: 0,
+        in_record: false,
+    }
 }
 
 // The fill that a field with so many bytes of data needs.

@@ -3,11 +3,11 @@ use Rattle.body.proofs.sections.Statement.{statement}
 use Rattle.body.proofs.sections.Tie as tie
 use Rattle.body.proofs.sections.Reads as reads
 use Rattle.body.proofs.sections.Lts as lts
-use Rattle.body.proofs.start.Reads as start-reads
 use Rattle.body.proofs.tally.empty.Reads as empty-reads
 use Rattle.body.proofs.tally.header_field.Reads as header-field-reads
 use Rattle.body.proofs.tally.record_end.Reads as record-end-reads
 use Rattle.body.proofs.tally.step.Reads as step-reads
+use Rattle.fields.proofs.start.Reads as start-reads
 use Rattle.fields.proofs.walk.Reads as walk-reads
 
 abbrev Inv-loop : tie.InvT-loop
@@ -16,71 +16,71 @@ Inv-loop body c₀ x₀ headers₀ records₀ c x headers records = ?
 abbrev μ-loop : tie.MeasureT-loop
 μ-loop body c₀ x₀ headers₀ records₀ c x headers records = ?
 
--- src/lib.rt:62:9
+-- src/lib.rt:52:9
 start-requires : tie.Need-start-requires Inv-loop μ-loop
 start-requires c κs = search needs
 
--- src/lib.rt:63:9
+-- src/lib.rt:53:9
 empty-requires : tie.Need-empty-requires Inv-loop μ-loop
 empty-requires c κs = search needs
 
--- src/lib.rt:66:5
+-- src/lib.rt:56:5
 loop-holds : tie.Need-loop-holds Inv-loop μ-loop
 loop-holds c = search needs
 
--- src/lib.rt:67:37
+-- src/lib.rt:57:37
 walk-requires : tie.Need-walk-requires Inv-loop μ-loop
 walk-requires c κs = search needs
 
--- src/lib.rt:67:26
+-- src/lib.rt:57:26
 enum-known-f : tie.Need-enum-known-f Inv-loop μ-loop
 enum-known-f c = search needs
 
--- src/lib.rt:68:13
+-- src/lib.rt:58:13
 returns : tie.Need-returns Inv-loop μ-loop
 returns c = search needs
 
--- src/lib.rt:70:20
+-- src/lib.rt:60:20
 header-field-requires : tie.Need-header-field-requires Inv-loop μ-loop
 header-field-requires c κs = search needs
 
--- src/lib.rt:70:9
+-- src/lib.rt:60:9
 add-headers : tie.Need-add-headers Inv-loop μ-loop
 add-headers c = search needs
 
--- src/lib.rt:71:20
+-- src/lib.rt:61:20
 record-end-requires : tie.Need-record-end-requires Inv-loop μ-loop
 record-end-requires c κs = search needs
 
--- src/lib.rt:71:9
+-- src/lib.rt:61:9
 add-records : tie.Need-add-records Inv-loop μ-loop
 add-records c = search needs
 
--- src/lib.rt:72:9
+-- src/lib.rt:62:9
 step-requires : tie.Need-step-requires Inv-loop μ-loop
 step-requires c κs = search needs
 
--- src/lib.rt:66:5
+-- src/lib.rt:56:5
 loop-less : tie.Need-loop-less Inv-loop μ-loop
 loop-less c = search needs
 
--- src/lib.rt:66:5
+-- src/lib.rt:56:5
 loop-again : tie.Need-loop-again Inv-loop μ-loop
 loop-again c = search needs
 
--- src/lib.rt:76:9
+-- src/lib.rt:66:9
 returns-2 : tie.Need-returns-2 Inv-loop μ-loop
 returns-2 c = search needs
 
--- src/lib.rt:80:13
+-- src/lib.rt:70:13
 returns-3 : tie.Need-returns-3 Inv-loop μ-loop
 returns-3 c = search needs
 
--- src/lib.rt:82:9
+-- src/lib.rt:72:9
 returns-4 : tie.Need-returns-4 Inv-loop μ-loop
 returns-4 c = search needs
 
--- src/lib.rt:59:1
+-- src/lib.rt:49:1
 returns-5 : tie.Need-returns-5 Inv-loop μ-loop
 returns-5 c = search needs
 

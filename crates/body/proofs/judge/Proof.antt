@@ -1,0 +1,26 @@
+use borrow.Author.Needs.{needs}
+use Rattle.body.proofs.judge.Statement.{statement}
+use Rattle.body.proofs.judge.Tie as tie
+use Rattle.body.proofs.judge.Reads as reads
+use Rattle.body.proofs.judge.Lts as lts
+use Rattle.body.proofs.sections.Reads as sections-reads
+use Rattle.body.proofs.version_first.Reads as version-first-reads
+
+-- src/lib.rt:80:8
+version-first-requires : tie.Need-version-first-requires
+version-first-requires c κs = search needs
+
+-- src/lib.rt:81:9
+sections-requires : tie.Need-sections-requires
+sections-requires c κs = search needs
+
+-- src/lib.rt:81:9
+returns : tie.Need-returns
+returns c = search needs
+
+-- src/lib.rt:77:1
+returns-2 : tie.Need-returns-2
+returns-2 c = search needs
+
+pub judge-spec : {M : Type 1} → statement M
+judge-spec = tie.close (tie.spec version-first-requires sections-requires returns returns-2)
