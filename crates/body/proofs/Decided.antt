@@ -71,3 +71,88 @@ good fs =
         record { uuid = u .0 (x .0); title = t .0 (y .0); password = p .0 (y .1) },
       λ h. and (one 0x01 (λ n. eqb n 16) fs) _ (u .1 (h .uuid)) (and (one 0x03 (λ n. leb 1 n) fs) _ (t .1 (h .title)) (p .1 (h .password))),
     )
+
+no-field : (u : List Stored) → none u ≡ true → u ≡ []
+no-field [] h = refl
+no-field (f ∷ fs) h = absurd (false≢true h)
+
+-- good runs after the header: records, then nothing
+records-in : (us : List (List Stored)) → goodRuns true us ≡ true → (rs : List (List Stored)) × (us ≡ rs ++ ([] ∷ [])) × Each GoodRecord rs
+unfolding goodRuns
+records-in [] h = absurd (false≢true h)
+records-in (u ∷ []) h = ([], rw (no-field u h), tt)
+records-in (u ∷ v ∷ us) h =
+    let x = both (goodRecord u) (goodRuns true (v ∷ us)) h in
+    let r = records-in (v ∷ us) (x .1) in
+    (u ∷ r .0, ap (_∷_ u) (r .1), (good u .0 (x .0), r .2))
+
+records-out : (rs : List (List Stored)) → Each GoodRecord rs → goodRuns true (rs ++ ([] ∷ [])) ≡ true
+unfolding goodRuns
+records-out [] h = refl
+records-out (r ∷ []) h = rw (good r .1 (h .0))
+records-out (r ∷ q ∷ rs) h = rw (good r .1 (h .0)) (records-out (q ∷ rs) (h .1))
+
+sections-in : (us : List (List Stored)) → goodRuns false us ≡ true
+    → (h : List Stored) × (rs : List (List Stored)) × (us ≡ h ∷ (rs ++ ([] ∷ []))) × Each (λ k. count k h ≤ 1) onceInHeader × Each GoodRecord rs
+unfolding goodRuns
+sections-in [] e = absurd (false≢true e)
+sections-in (u ∷ []) e = absurd (false≢true e)
+sections-in (u ∷ v ∷ us) e =
+    let x = both (goodHeader u) (goodRuns true (v ∷ us)) e in
+    let r = records-in (v ∷ us) (x .1) in
+    (u, r .0, ap (_∷_ u) (r .1), header u .0 (x .0), r .2)
+
+sections-out : (h : List Stored) (rs : List (List Stored)) → Each (λ k. count k h ≤ 1) onceInHeader → Each GoodRecord rs → goodRuns false (h ∷ (rs ++ ([] ∷ []))) ≡ true
+unfolding goodRuns
+sections-out h [] k r = rw (header h .1 k)
+sections-out h (q ∷ rs) k r = rw (header h .1 k) (records-out (q ∷ rs) r)
+
+module _ (s : List ℕ) where
+  decided : Bytes s → wellFormed s ≡ true → WellFormed s
+  unfolding wellFormed
+  decided b h =
+      let x = both (exactFrom s 0) _ h in
+      let y = both (endsEmpty (fieldsOf s)) _ (x .1) in
+      let z = both (versionFirst (fieldsOf s)) _ (y .1) in
+      let t = sections-in (runs (fieldsOf s)) (z .1) in
+      record {
+        fields = fieldsOf s;
+        header = t .0;
+        records = t .1;
+        divides = divides s b (x .0);
+        ends = ends-empty (fieldsOf s) .0 (y .0);
+        version = version (fieldsOf s) .0 (z .0);
+        sections = t .2;
+        repeats = t .3;
+        mandatory = t .4;
+      }
+
+  -- the fields of a well-formed body are those that are read
+  pub fields-are : (w : WellFormed s) → fieldsOf s ≡ w .fields
+  fields-are w = division s (w .fields) (w .divides)
+
+  decides : WellFormed s → wellFormed s ≡ true
+  unfolding wellFormed
+  decides w =
+      rw (exact s (w .fields) (w .divides), fields-are w, ends-empty (w .fields) .1 (w .ends), version (w .fields) .1 (w .version), w .sections)
+      (sections-out (w .header) (w .records) (w .repeats) (w .mandatory))
+
+  pub well-formed : Bytes s → (wellFormed s ≡ true) ↔ WellFormed s
+  well-formed b = (decided b, decides)
+
+  pub covered-are : (w : WellFormed s) → coveredOf s ≡ covered (w .fields)
+  covered-are w = ap covered (fields-are w)
+
+  runs-are : (w : WellFormed s) → runs (fieldsOf s) ≡ w .header ∷ (w .records ++ ([] ∷ []))
+  runs-are w = ap runs (fields-are w) ∙ w .sections
+
+  pub header-is : (w : WellFormed s) → headerIn (runs (fieldsOf s)) ≡ w .header
+  header-is w = ap headerIn (runs-are w)
+
+  pub records-are : (w : WellFormed s) → recordsIn (runs (fieldsOf s)) ≡ w .records
+  records-are w =
+      let n : length (w .records) ≡ length (w .records ++ ([] ∷ [])) - 1 = simp length-append (omega arith) in
+      ap recordsIn (runs-are w) ∙ take-at (w .records) ([] ∷ []) (length (w .records ++ ([] ∷ [])) - 1) n
+
+  pub counts-are : (w : WellFormed s) → (headersOf s ≡ length (w .header)) × (recordsOf s ≡ length (w .records))
+  counts-are w = (ap length (header-is w), ap length (records-are w))
