@@ -2,3 +2,7 @@ pub mod Division
 pub mod Visits
 mod Tests
 pub mod Decided
+mod Sums
+mod Verdict
+pub mod Along
+mod Stands
