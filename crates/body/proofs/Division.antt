@@ -57,7 +57,7 @@ from-none s p h = enough (length s) (suc (length s)) s p (omega arith) (omega ar
 
 -- the field that stands at p, where its blocks are within s
 module _ (s : List ℕ) (p : ℕ) (h : fits s p ≡ true) where
-  data-long : length (dataAt s p) ≡ lenAt s p
+  pub data-long : length (dataAt s p) ≡ lenAt s p
   data-long = let r = more-room s p h in simp (length-take, length-drop) (omega arith)
 
   fill-long : length (storedAt s p .fill) ≡ fillOf (lenAt s p)

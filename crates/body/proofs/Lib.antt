@@ -3,6 +3,7 @@ pub mod Visits
 mod Tests
 pub mod Decided
 mod Sums
+mod OnceTypes
 mod Verdict
 pub mod Along
 mod Stands
