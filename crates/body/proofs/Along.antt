@@ -3,7 +3,7 @@
 use Prim.Native.Nat.{ℕ, _+_, _-_, _%_, _<_, _≤_}
 use mathlib.Core.Path.{_≡_, refl, sym, ap, _∙_}
 use mathlib.Core.Bool.{Bool, true, false, cond, not, _&&_, false≢true, true≢false}
-use mathlib.Core.Logic.{⊎-elim}
+use mathlib.Core.Logic.{_⊎_, inl, inr, ⊎-elim}
 use mathlib.Core.List.{List, [], _∷_, _++_}
 use native.Mathlib.Nat.{add-zero}
 use native.Mathlib.Omega.{arith}
@@ -11,7 +11,7 @@ use lib.Dec.{leb, eqb}
 use lib.ListN.{length, take, drop, length-append}
 use types.Run.{OneOf}
 use denote.Enum.Declared.{tagOf}
-use borrow.Author.Tests.{le-leb, leb-true, leb-false, eqb-true, not-true}
+use borrow.Author.Tests.{le-leb, leb-true, ne-eqb}
 use Rattle.fields.specs.Stored.{Stored, bytesOf, roomOf}
 use Rattle.fields.specs.Walk.{walkOf, start, lenAt, kindAt, endWithData, fieldAt, after}
 use Rattle.fields.specs.declared.Cursor.{Cursor}
@@ -66,3 +66,75 @@ from-end s c h = from-none s (c .place) (no (leb (c .place + roomOf (lenAt s (c 
     no : (b : Bool) → fits s (c .place) ≡ b → fits s (c .place) ≡ false
     no true e = absurd (omega (arith, leb-true (c .place + roomOf (lenAt s (c .place))) (length s) e))
     no false e = e
+
+-- the walk takes no field, and the end is not reached
+module _ (s : List ℕ) (c : Cursor) (w : Walked) (q : w ≡ walkOf s c) (al : c .place % 16 ≡ 0) (l : c .place < length s)
+    (o : OneOf (1 ∷ 2 ∷ 3 ∷ []) (tagOf walked.the-type w)) where
+  none-taken : (f : Field) (d : Cursor) → walkOf s c ≡ Took f d → ⊥
+  none-taken f d e =
+      let t : OneOf (1 ∷ 2 ∷ 3 ∷ []) (tagOf walked.the-type (Took f d)) = rw (q ∙ e) at o in
+      ⊎-elim (λ z. omega arith) (⊎-elim (λ z. omega arith) (λ z. omega arith)) t
+
+  -- the field passes the end, or it is an END with data
+  pub untaken : (exactFrom s (c .place) ≡ false)
+      ⊎ ((fieldsFrom s (c .place) ≡ storedAt s (c .place) ∷ fieldsFrom s (c .place + roomOf (lenAt s (c .place))))
+      × (endWithData (storedAt s (c .place) .kind) (length (storedAt s (c .place) .content)) ≡ true))
+  untaken = by (fits s (c .place)) refl (endWithData (kindAt s (c .place)) (lenAt s (c .place))) refl
+    where
+      by : (b : Bool) → fits s (c .place) ≡ b → (k : Bool) → endWithData (kindAt s (c .place)) (lenAt s (c .place)) ≡ k
+          → (exactFrom s (c .place) ≡ false)
+          ⊎ ((fieldsFrom s (c .place) ≡ storedAt s (c .place) ∷ fieldsFrom s (c .place + roomOf (lenAt s (c .place))))
+          × (endWithData (storedAt s (c .place) .kind) (length (storedAt s (c .place) .content)) ≡ true))
+      by false e k g = inl (rw (from-none s (c .place) e, add-zero (c .place)) (ne-eqb (c .place) (length s) (λ z. omega arith)))
+      by true e true g = inr (from-fits s (c .place) e, rw (data-long s (c .place) e) g)
+      by true e false g =
+          let r = leb-true (c .place + roomOf (lenAt s (c .place))) (length s) e in
+          absurd (none-taken (fieldAt s c) (after s c) (took s c al (omega arith) (λ z. omega arith) (omega arith) (omega arith) g))
+
+-- The cursor stands where the rest of the body divides into fields: so it does all along the walk over a well-formed body.
+pub record Along (s : List ℕ) (c : Cursor) : Type 0 where
+  pub aligned : c .place % 16 ≡ 0
+  pub within : c .place ≤ length s
+  pub exact : exactFrom s (c .place) ≡ true
+  pub ends : endsEmpty (fieldsFrom s (c .place)) ≡ true
+
+pub along-start : (s : List ℕ) → wellFormed s ≡ true → Along s start
+unfolding wellFormed
+along-start s h =
+    let x = both (exactFrom s 0) _ h in
+    record { aligned = refl; within = omega arith; exact = x .0; ends = both (endsEmpty (fieldsOf s)) _ (x .1) .0 }
+
+pub along-took : (s : List ℕ) (c : Cursor) (f : Field) (d : Cursor) → walkOf s c ≡ Took f d → Along s c → Along s d
+along-took s c f d e a =
+    let w = forward s c f d e in
+    record {
+      aligned = w .2;
+      within = w .1;
+      exact = sym (exact-took s c f d e) ∙ a .exact;
+      ends = both (not (endWithData (storedAt s (c .place) .kind) (length (storedAt s (c .place) .content)))) (endsEmpty (fieldsFrom s (d .place))) (ap endsEmpty (sym (from-took s c f d e)) ∙ a .ends) .1;
+    }
+
+-- before the end the walk takes a field
+pub along-else : (s : List ℕ) (c : Cursor) (w : Walked) → w ≡ walkOf s c → Along s c → c .place < length s → OneOf (1 ∷ 2 ∷ 3 ∷ []) (tagOf walked.the-type w) → ⊥
+along-else s c w q a l o =
+    ⊎-elim (λ x. true≢false (sym (a .exact) ∙ x))
+    (λ x. false≢true (sym (ap not (x .1)) ∙ both (not (endWithData (storedAt s (c .place) .kind) (length (storedAt s (c .place) .content)))) _ (ap endsEmpty (sym (x .0)) ∙ a .ends) .0))
+    (untaken s c w q (a .aligned) l o)
+
+-- what the HMAC covers from a cursor on: the data of the field that the walk takes, and what it covers from the next cursor on
+abbrev pub coveredFrom : List ℕ → Cursor → List ℕ
+coveredFrom s c = covered (fieldsFrom s (c .place))
+
+abbrev pub dataOf : List ℕ → Field → List ℕ
+dataOf s f = take (f .len) (drop (f .place + 5) s)
+
+pub covered-start : (s : List ℕ) → coveredFrom s start ≡ coveredOf s
+covered-start s = refl
+
+pub covered-took : (s : List ℕ) (c : Cursor) (f : Field) (d : Cursor) → walkOf s c ≡ Took f d → coveredFrom s c ≡ dataOf s f ++ coveredFrom s d
+covered-took s c f d e =
+    ap covered (from-took s c f d e)
+    ∙ ap (λ (x : Field). dataOf s x ++ coveredFrom s d) (sym (taken s c f d e .field))
+
+pub covered-end : (s : List ℕ) (c : Cursor) → length s ≤ c .place → coveredFrom s c ≡ []
+covered-end s c h = ap covered (from-end s c h)
