@@ -67,29 +67,31 @@ from-end s c h = from-none s (c .place) (no (leb (c .place + roomOf (lenAt s (c 
     no true e = absurd (omega (arith, leb-true (c .place + roomOf (lenAt s (c .place))) (length s) e))
     no false e = e
 
--- the walk takes no field, and the end is not reached
-module _ (s : List ℕ) (c : Cursor) (w : Walked) (q : w ≡ walkOf s c) (al : c .place % 16 ≡ 0) (l : c .place < length s)
-    (o : OneOf (1 ∷ 2 ∷ 3 ∷ []) (tagOf walked.the-type w)) where
+-- the walk takes no field: the field's blocks are not within the body, or it is an END with data
+module _ (s : List ℕ) (c : Cursor) (w : Walked) (q : w ≡ walkOf s c) (al : c .place % 16 ≡ 0) (o : OneOf (1 ∷ 2 ∷ 3 ∷ []) (tagOf walked.the-type w)) where
   none-taken : (f : Field) (d : Cursor) → walkOf s c ≡ Took f d → ⊥
   none-taken f d e =
       let t : OneOf (1 ∷ 2 ∷ 3 ∷ []) (tagOf walked.the-type (Took f d)) = rw (q ∙ e) at o in
       ⊎-elim (λ z. omega arith) (⊎-elim (λ z. omega arith) (λ z. omega arith)) t
 
-  -- the field passes the end, or it is an END with data
-  pub untaken : (exactFrom s (c .place) ≡ false)
+  pub untaken : (fits s (c .place) ≡ false)
       ⊎ ((fieldsFrom s (c .place) ≡ storedAt s (c .place) ∷ fieldsFrom s (c .place + roomOf (lenAt s (c .place))))
       × (endWithData (storedAt s (c .place) .kind) (length (storedAt s (c .place) .content)) ≡ true))
   untaken = by (fits s (c .place)) refl (endWithData (kindAt s (c .place)) (lenAt s (c .place))) refl
     where
       by : (b : Bool) → fits s (c .place) ≡ b → (k : Bool) → endWithData (kindAt s (c .place)) (lenAt s (c .place)) ≡ k
-          → (exactFrom s (c .place) ≡ false)
+          → (fits s (c .place) ≡ false)
           ⊎ ((fieldsFrom s (c .place) ≡ storedAt s (c .place) ∷ fieldsFrom s (c .place + roomOf (lenAt s (c .place))))
           × (endWithData (storedAt s (c .place) .kind) (length (storedAt s (c .place) .content)) ≡ true))
-      by false e k g = inl (rw (from-none s (c .place) e, add-zero (c .place)) (ne-eqb (c .place) (length s) (λ z. omega arith)))
+      by false e k g = inl e
       by true e true g = inr (from-fits s (c .place) e, rw (data-long s (c .place) e) g)
       by true e false g =
           let r = leb-true (c .place + roomOf (lenAt s (c .place))) (length s) e in
           absurd (none-taken (fieldAt s c) (after s c) (took s c al (omega arith) (λ z. omega arith) (omega arith) (omega arith) g))
+
+-- before the end, a field that is not within the body
+pub cut-off : (s : List ℕ) (p : ℕ) → fits s p ≡ false → p < length s → exactFrom s p ≡ false
+cut-off s p e l = rw (from-none s p e, add-zero p) (ne-eqb p (length s) (λ z. omega arith))
 
 -- The cursor stands where the rest of the body divides into fields: so it does all along the walk over a well-formed body.
 pub record Along (s : List ℕ) (c : Cursor) : Type 0 where
@@ -117,9 +119,9 @@ along-took s c f d e a =
 -- before the end the walk takes a field
 pub along-else : (s : List ℕ) (c : Cursor) (w : Walked) → w ≡ walkOf s c → Along s c → c .place < length s → OneOf (1 ∷ 2 ∷ 3 ∷ []) (tagOf walked.the-type w) → ⊥
 along-else s c w q a l o =
-    ⊎-elim (λ x. true≢false (sym (a .exact) ∙ x))
+    ⊎-elim (λ x. true≢false (sym (a .exact) ∙ cut-off s (c .place) x l))
     (λ x. false≢true (sym (ap not (x .1)) ∙ both (not (endWithData (storedAt s (c .place) .kind) (length (storedAt s (c .place) .content)))) _ (ap endsEmpty (sym (x .0)) ∙ a .ends) .0))
-    (untaken s c w q (a .aligned) l o)
+    (untaken s c w q (a .aligned) o)
 
 -- what the HMAC covers from a cursor on: the data of the field that the walk takes, and what it covers from the next cursor on
 abbrev pub coveredFrom : List ℕ → Cursor → List ℕ

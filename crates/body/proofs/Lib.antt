@@ -6,4 +6,5 @@ mod Sums
 mod OnceTypes
 mod Verdict
 pub mod Along
+mod FirstField
 mod Stands

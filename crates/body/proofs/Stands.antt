@@ -27,7 +27,7 @@ use Rattle.body.specs.declared.Judged.{Judged}
 use Rattle.body.specs.declared.Judged.the-variants.{Counts, NotWellFormed}
 use Rattle.body.proofs.Sums.{Sums, sums-empty, sums-note, sums-passes}
 use Rattle.body.proofs.Verdict.{verdict, verdict-start, verdict-end, verdict-field, verdict-stop, verdict-broken, verdict-ended}
-use Rattle.body.proofs.Along.{from-took, from-end, taken-kind, taken-length, taken-no-data, exact-took, untaken}
+use Rattle.body.proofs.Along.{from-took, from-end, taken-kind, taken-length, taken-no-data, exact-took, untaken, cut-off}
 
 pub record Stands (s : List ℕ) (c : Cursor) (x : Section) (h n : ℕ) : Type 0 where
   pub cur : List Stored
@@ -53,10 +53,10 @@ module _ (s : List ℕ) (c : Cursor) (x : Section) (h n : ℕ) (t : Stands s c x
       let r = c .«in_record» in
       ⊎-elim
       (λ e. verdict-broken (t .right) r (t .cur) h n (fieldsFrom s (c .place))
-        ∙ ap (λ (b : Bool). verdict (t .right) r (t .cur) h n b (fieldsFrom s (c .place))) (sym e) ∙ t .rest)
+        ∙ ap (λ (b : Bool). verdict (t .right) r (t .cur) h n b (fieldsFrom s (c .place))) (sym (cut-off s (c .place) e l)) ∙ t .rest)
       (λ e. verdict-ended (t .right) r (t .cur) h n (exactFrom s (c .place)) (storedAt s (c .place)) (fieldsFrom s (c .place + roomOf (lenAt s (c .place)))) (e .1)
         ∙ ap (verdict (t .right) r (t .cur) h n (exactFrom s (c .place))) (sym (e .0)) ∙ t .rest)
-      (untaken s c w q (t .aligned) l o)
+      (untaken s c w q (t .aligned) o)
 
   -- the end
   pub stands-stop : length s ≤ c .place → sectionsOf s ≡ cond (t .right && (c .«in_record» && none (t .cur))) (Counts h n) NotWellFormed

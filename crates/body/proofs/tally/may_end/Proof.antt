@@ -4,35 +4,35 @@ use Rattle.body.proofs.tally.may_end.Tie as tie
 use Rattle.body.proofs.tally.may_end.Reads as reads
 use Rattle.body.proofs.tally.may_end.Lts as lts
 
--- src/tally.rt:113:16
+-- src/lib.rt:118:16
 array-read-if3 : tie.Need-array-read-if3
 array-read-if3 c = search needs
 
--- src/tally.rt:114:20
+-- src/lib.rt:119:20
 array-read-if4 : tie.Need-array-read-if4
 array-read-if4 c = search needs
 
--- src/tally.rt:115:28
+-- src/lib.rt:120:28
 array-read-result : tie.Need-array-read-result
 array-read-result c = search needs
 
--- src/tally.rt:115:21
+-- src/lib.rt:120:21
 returns : tie.Need-returns
-returns c = search needs
+returns c = rw (c .before .before .before .before .if1 .taken, c .before .before .before .if2 .taken, c .before .if3 .taken, c .if4 .taken)
 
--- src/tally.rt:117:17
+-- src/lib.rt:122:17
 returns-2 : tie.Need-returns-2
-returns-2 c = search needs
+returns-2 c = rw (c .before .before .before .before .if1 .taken, c .before .before .before .if2 .taken, c .before .if3 .taken, c .if4 .left)
 
--- src/tally.rt:119:13
+-- src/lib.rt:124:13
 returns-3 : tie.Need-returns-3
-returns-3 c = search needs
+returns-3 c = rw (c .before .before .before .if1 .taken, c .before .before .if2 .taken, c .if3 .left)
 
--- src/tally.rt:121:9
+-- src/lib.rt:126:9
 returns-4 : tie.Need-returns-4
 returns-4 c = search needs
 
--- src/tally.rt:107:1
+-- src/lib.rt:112:1
 returns-5 : tie.Need-returns-5
 returns-5 c = search needs
 

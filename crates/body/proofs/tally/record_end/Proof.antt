@@ -1,3 +1,4 @@
+use Rattle.text.proofs.Tests.{tests}
 use borrow.Author.Needs.{needs}
 use Rattle.body.proofs.tally.record_end.Statement.{statement}
 use Rattle.body.proofs.tally.record_end.Tie as tie
@@ -6,11 +7,11 @@ use Rattle.body.proofs.tally.record_end.Lts as lts
 
 -- src/tally.rt:155:13
 returns : tie.Need-returns
-returns c = search needs
+returns c = rw (c .before .if1 .taken) (search tests)
 
 -- src/tally.rt:157:9
 returns-2 : tie.Need-returns-2
-returns-2 c = search needs
+returns-2 c = rw (c .before .if1 .taken) (search tests)
 
 -- src/tally.rt:150:1
 returns-3 : tie.Need-returns-3
