@@ -2,7 +2,7 @@
 use Prim.Native.Nat.{ℕ, _+_, _%_, _<_, _≤_}
 use mathlib.Core.Path.{_≡_, refl, sym, ap, ap₂, _∙_}
 use mathlib.Core.Logic.{⊎-elim}
-use mathlib.Core.Bool.{Bool, true, false, cond, not, _&&_, _||_, or-true, or-false}
+use mathlib.Core.Bool.{Bool, true, false, cond, not, _&&_, _||_, or-true, or-false, false≢true}
 use mathlib.Core.List.{List, [], _∷_, _++_}
 use native.Mathlib.Nat.{add-zero}
 use native.Mathlib.Omega.{arith}
@@ -10,7 +10,7 @@ use lib.Dec.{eqb}
 use lib.ListN.{length}
 use types.Run.{OneOf}
 use denote.Enum.Declared.{tagOf}
-use borrow.Author.Tests.{eq-eqb}
+use borrow.Author.Tests.{eq-eqb, not-false}
 use Rattle.fields.specs.Stored.{Stored, roomOf}
 use Rattle.fields.specs.Walk.{walkOf, start, lenAt}
 use Rattle.fields.specs.declared.Cursor.{Cursor}
@@ -25,7 +25,7 @@ use Rattle.body.specs.Tally.{sectionsOf, emptySection, noted, passes, st
 use Rattle.body.specs.declared.tally.Section.{Section}
 use Rattle.body.specs.declared.Judged.{Judged}
 use Rattle.body.specs.declared.Judged.the-variants.{Counts, NotWellFormed}
-use Rattle.body.proofs.Sums.{Sums, sums-empty, sums-note, sums-passes}
+use Rattle.body.proofs.Sums.{Sums, sums-empty, sums-note, sums-passes, sums-fresh}
 use Rattle.body.proofs.Verdict.{verdict, verdict-start, verdict-end, verdict-field, verdict-stop, verdict-broken, verdict-ended}
 use Rattle.body.proofs.Along.{from-took, from-end, taken-kind, taken-length, taken-no-data, exact-took, untaken, cut-off}
 
@@ -65,6 +65,27 @@ module _ (s : List ℕ) (c : Cursor) (x : Section) (h n : ℕ) (t : Stands s c x
       sym (t .rest)
       ∙ ap (verdict (t .right) (c .«in_record») (t .cur) h n (exactFrom s (c .place))) (from-end s c l)
       ∙ verdict-stop (t .right) (c .«in_record») (t .cur) h n (exactFrom s (c .place)) e
+
+  module _ (l : length s ≤ c .place) where
+    pub stands-used : x .used ≡ true → NotWellFormed ≡ sectionsOf s
+    stands-used u = sym (stands-stop l ∙ by (t .right) (c .«in_record») (none (t .cur)) (sym (t .sums .used) ∙ u))
+      where
+        by : (b r o : Bool) → not o ≡ true → cond (b && (r && o)) (Counts h n) NotWellFormed ≡ NotWellFormed
+        by b r true k = absurd (false≢true k)
+        by true true false k = refl
+        by true false false k = refl
+        by false r false k = refl
+
+    -- nothing follows the last END
+    pub stands-ended : x .used ≡ false → sectionsOf s ≡ cond (x .fine) (cond (c .«in_record») (Counts h n) NotWellFormed) NotWellFormed
+    stands-ended u =
+        let o : none (t .cur) ≡ true = not-false (none (t .cur)) (sym (t .sums .used) ∙ u) in
+        stands-stop l ∙ rw (o, sums-fresh (c .«in_record») (t .cur) (t .right) x (t .sums) o) (by (t .right) (c .«in_record»))
+      where
+        by : (b r : Bool) → cond (b && (r && true)) (Counts h n) NotWellFormed ≡ cond b (cond r (Counts h n) NotWellFormed) NotWellFormed
+        by true true = refl
+        by true false = refl
+        by false r = refl
 
   module _ (f : Field) (d : Cursor) (e : walkOf s c ≡ Took f d) where
     -- in a record, after this field
@@ -140,3 +161,13 @@ module _ (s : List ℕ) (c : Cursor) (x : Section) (h n : ℕ) (t : Stands s c x
             moved x′ _ (h + i) h (n + j) (n + cond (c .«in_record») 1 0) (p ∙ rw b) (ap (_+_ h) (q ∙ rw b (zero (c .«in_record»))) ∙ add-zero h) (ap (_+_ n) (u ∙ rw b)) (ended b)
         by false b p q u =
             moved x′ _ (h + i) (h + cond (c .«in_record») 0 1) (n + j) n (p ∙ rw b) (ap (_+_ h) (q ∙ rw b)) (ap (_+_ n) (u ∙ rw b (zero (c .«in_record»))) ∙ add-zero n) (noting b)
+
+-- at most one more
+pub at-most-one : (r : Bool) (k : ℕ) → (headerField r k ≤ 1) × (recordEnd r k ≤ 1)
+at-most-one r k = by r (eqb k 0xff)
+  where
+    by : (r b : Bool) → (cond r 0 (cond b 0 1) ≤ 1) × (cond r (cond b 1 0) 0 ≤ 1)
+    by true true = (omega arith, omega arith)
+    by true false = (omega arith, omega arith)
+    by false true = (omega arith, omega arith)
+    by false false = (omega arith, omega arith)

@@ -242,3 +242,10 @@ sums-passes true cur b x s =
     rw (s .fine, s .seen 1 refl, s .seen 3 refl, s .seen 6 refl, lengths-apart cur, exactly (c 1), exactly (c 3), exactly (c 6))
     (alike _ _ (all-three b (sizes 0x01 (λ n. eqb n 16) cur) (sizes 0x03 (λ n. leb 1 n) cur) (sizes 0x06 (λ n. leb 1 n) cur)
     (leb (c 1) 1) (leb (c 3) 1) (leb (c 6) 1) (ltb 0 (c 1)) (ltb 0 (c 3)) (ltb 0 (c 6))))
+
+-- in a section without a field, what came before decides
+pub sums-fresh : (r : Bool) (cur : List Stored) (b : Bool) (x : Section) → Sums r cur b x → none cur ≡ true → x .fine ≡ b
+unfolding once
+sums-fresh true [] b x s h = s .fine ∙ and-true b
+sums-fresh false [] b x s h = s .fine ∙ and-true b
+sums-fresh r (f ∷ cur) b x s h = absurd (false≢true h)
