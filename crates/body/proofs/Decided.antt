@@ -92,7 +92,7 @@ records-out [] h = refl
 records-out (r ∷ []) h = rw (good r .1 (h .0))
 records-out (r ∷ q ∷ rs) h = rw (good r .1 (h .0)) (records-out (q ∷ rs) (h .1))
 
-sections-in : (us : List (List Stored)) → goodRuns false us ≡ true
+pub sections-in : (us : List (List Stored)) → goodRuns false us ≡ true
     → (h : List Stored) × (rs : List (List Stored)) × (us ≡ h ∷ (rs ++ ([] ∷ []))) × Each (λ k. count k h ≤ 1) onceInHeader × Each GoodRecord rs
 unfolding goodRuns
 sections-in [] e = absurd (false≢true e)

@@ -8,3 +8,4 @@ mod Verdict
 pub mod Along
 mod FirstField
 mod Stands
+mod Hunt

@@ -33,7 +33,7 @@ verdict b r cur h n e fs =
     cond (b && (e && (endsEmpty fs && goodRuns r (glue cur (runs fs))))) (Counts (h + headersLeft r (runs fs)) (n + recordsLeft r (runs fs))) NotWellFormed
 
 -- there is always a run
-some-run : (fs : List Stored) → (u : List Stored) × (us : List (List Stored)) × (runs fs ≡ u ∷ us)
+pub some-run : (fs : List Stored) → (u : List Stored) × (us : List (List Stored)) × (runs fs ≡ u ∷ us)
 unfolding runs
 some-run [] = ([], [], refl)
 some-run (f ∷ fs) = by (isEnd f) (some-run fs)

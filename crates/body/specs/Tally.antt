@@ -50,6 +50,10 @@ headerField r k = cond r 0 (cond (eqb k 0xff) 0 1)
 abbrev pub recordEnd : Bool → ℕ → ℕ
 recordEnd r k = cond r (cond (eqb k 0xff) 1 0) 0
 
+-- the first place of the present section: the next place after an END
+abbrev pub firstPlace : ℕ → ℕ → ℕ → ℕ
+firstPlace k p q = cond (eqb k 0xff) q p
+
 -- all but Version
 unfoldable pub sectionsOf : List ℕ → Judged
 sectionsOf s =

@@ -6,10 +6,10 @@ use fields::Walked;
 mod tally;
 
 ghost use mathlib.Core.Path.{_≡_};
-ghost use mathlib.Core.Bool.{cond};
-ghost use Prim.Native.Nat.{_+_, _<_, _^_};
-ghost use Rattle.body.specs.Decision.{fieldsOf, versionFirst, judgedOf};
-ghost use Rattle.body.specs.Find.{isUuid, findOf};
+ghost use mathlib.Core.Bool.{true, _&&_};
+ghost use Rattle.body.specs.Sections.{runs};
+ghost use Rattle.body.specs.Decision.{fieldsOf, versionFirst, wellFormed, judgedOf};
+ghost use Rattle.body.specs.Find.{isUuid, soughtIn, findOf};
 ghost use Rattle.body.specs.Tally.{sectionsOf};
 
 // How many header fields and records a body has, or that it is not well formed.
@@ -81,4 +81,55 @@ pub fn judge(body: &[u8]) -> Judged
         return sections(body);
     }
     Judged::NotWellFormed
+}
+
+// A record's field with the UUID of these halves.
+fn matches(in_record: bool, v: Value, low: u64, high: u64) -> bool
+    ensures { λ r. ⌜ r ≡ («in_record» && isUuid v low high) ⌝ }
+{
+    if in_record {
+        let Value::Uuid(x, y) = v else {
+            return false;
+        };
+        if x == low {
+            return y == high;
+        }
+        return false;
+    }
+    false
+}
+
+fn seek(body: &[u8], low: u64, high: u64) -> Sought
+    requires { ⌜ wellFormed (now body) ≡ true ⌝ }
+    ensures { λ r. ⌜ r ≡ soughtIn low high (runs (fieldsOf (now (body .entry)))) ⌝ }
+{
+    let mut c = fields::start();
+    let mut number: usize = 0;
+    let mut first: usize = 0;
+    while c.place < body.len() {
+        let Walked::Took(f, next) = fields::walk(body, c) else {
+            return Sought::NotWellFormed;
+        };
+        let v = f.value;
+        if matches(c.in_record, v, low, high) {
+            return Sought::At(number, first);
+        }
+        number += tally::record_end(c.in_record, f.kind);
+        first = tally::first_place(f.kind, first, next.place);
+        c = next;
+    }
+    Sought::Nowhere
+}
+
+// The first record with the UUID of these halves.
+pub fn find(body: &[u8], low: u64, high: u64) -> Found
+    ensures { λ r. ⌜ r ≡ findOf (now (body .entry)) low high ⌝ }
+{
+    let Judged::Counts(_, _) = judge(body) else {
+        return Found {
+            sought: Sought::NotWellFormed,
+        };
+    };
+    let sought = seek(body, low, high);
+    Found { sought: sought }
 }
