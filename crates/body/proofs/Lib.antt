@@ -1,0 +1,11 @@
+pub mod Division
+pub mod Visits
+mod Tests
+pub mod Decided
+mod Sums
+mod OnceTypes
+mod Verdict
+pub mod Along
+mod FirstField
+mod Stands
+mod Hunt

@@ -1,0 +1,40 @@
+-- A test and what it says, for one element and for each of a list: by cases on the answers.
+use Prim.Native.Nat.{ℕ, _≤_}
+use mathlib.Core.Path.{_≡_, refl}
+use mathlib.Core.Logic.{_↔_}
+use mathlib.Core.Bool.{Bool, true, false, cond, not, _&&_, false≢true, true≢false}
+use mathlib.Core.List.{List, [], _∷_}
+use lib.Dec.{eqb, leb}
+use borrow.Author.Tests.{eqb-true, eq-eqb, eqb-false, leb-true, le-leb}
+use Rattle.body.specs.Division.{Each}
+use Rattle.body.specs.Decision.{all}
+
+pub both : (a b : Bool) → (a && b) ≡ true → (a ≡ true) × (b ≡ true)
+both true b h = (refl, h)
+both false b h = absurd (false≢true h)
+
+pub and : (a b : Bool) → a ≡ true → b ≡ true → (a && b) ≡ true
+and a b h g = rw (h, g)
+
+pub equal : (a b : ℕ) → (eqb a b ≡ true) ↔ (a ≡ b)
+equal a b = (eqb-true a b, eq-eqb a b)
+
+pub at-most : (a b : ℕ) → (leb a b ≡ true) ↔ (a ≤ b)
+at-most a b = (leb-true a b, le-leb a b)
+
+pub each : {A : Type 0} (t : A → Bool) (P : A → Type 0) → ((a : A) → (t a ≡ true) ↔ P a) → (l : List A) → (all t l ≡ true) ↔ Each P l
+each t P k [] = (λ h. tt, λ h. refl)
+each t P k (a ∷ l) =
+    let r = each t P k l in
+    (λ h. let x = both (t a) (all t l) h in (k a .0 (x .0), r .0 (x .1)), λ h. and (t a) (all t l) (k a .1 (h .0)) (r .1 (h .1)))
+
+-- if a is b, then a further test
+pub where-equal : (a b : ℕ) (t : Bool) (P : Type 0) → (t ≡ true) ↔ P → (cond (eqb a b) t true ≡ true) ↔ (a ≡ b → P)
+where-equal a b t P k = (forth (eqb a b) refl, λ h. back (eqb a b) refl h)
+  where
+    forth : (c : Bool) → eqb a b ≡ c → cond c t true ≡ true → a ≡ b → P
+    forth true e h q = k .0 h
+    forth false e h q = absurd (eqb-false a b e q)
+    back : (c : Bool) → eqb a b ≡ c → (a ≡ b → P) → cond c t true ≡ true
+    back true e h = k .1 (h (eqb-true a b e))
+    back false e h = refl

@@ -1,0 +1,124 @@
+use Prim.Native.Nat.{_-_}
+use mathlib.Core.Path.{_≡_, sym, _∙_}
+use native.Mathlib.Omega.{arith}
+use lib.ListN.{length}
+use Rattle.fields.specs.Walk.{walkOf}
+use Rattle.fields.specs.declared.Walked.the-variants.{Took}
+use Rattle.fields.proofs.Outcomes.{forward}
+use Rattle.body.proofs.Stands.{at-most-one}
+use Rattle.body.proofs.Hunt.{Hunts, hunts-start, hunts-else, hunts-stop, hunts-found, hunts-took}
+use borrow.Author.Needs.{needs}
+use Rattle.body.proofs.seek.Statement.{statement}
+use Rattle.body.proofs.seek.Tie as tie
+use Rattle.body.proofs.seek.Reads as reads
+use Rattle.body.proofs.seek.Lts as lts
+use Rattle.body.proofs.matches.Reads as matches-reads
+use Rattle.body.proofs.tally.first_place.Reads as first-place-reads
+use Rattle.body.proofs.tally.record_end.Reads as record-end-reads
+use Rattle.fields.proofs.start.Reads as start-reads
+use Rattle.fields.proofs.walk.Reads as walk-reads
+
+abbrev Inv-loop : tie.InvT-loop
+Inv-loop body low high c₀ number₀ first₀ c number first = Hunts body low high c number first
+
+abbrev μ-loop : tie.MeasureT-loop
+μ-loop body low high c₀ number₀ first₀ c number first = length body - c .place
+
+-- src/lib.rt:106:9
+start-requires : tie.Need-start-requires Inv-loop μ-loop
+start-requires c κs = search needs
+
+-- src/lib.rt:109:5
+loop-holds : tie.Need-loop-holds Inv-loop μ-loop
+loop-holds c = rw (c .start .ensures) (hunts-start (c .before .before .args .body .now) (c .before .before .args .low) (c .before .before .args .high) (c .before .before .pre))
+
+-- src/lib.rt:110:37
+walk-requires : tie.Need-walk-requires Inv-loop μ-loop
+walk-requires c κs = search needs
+
+-- src/lib.rt:110:26
+enum-known-f : tie.Need-enum-known-f Inv-loop μ-loop
+enum-known-f c = search needs
+
+-- src/lib.rt:111:13
+returns : tie.Need-returns Inv-loop μ-loop
+returns c =
+    let g = c .before .before .before .before .before .before .before .args in
+    let s = g .body .now in
+    let at = c .before .before .before .before .loop in
+    hunts-else s (g .low) (g .high) (at .c) (at .number) (at .first) (at .inv) (c .before .walk .result) (c .before .walk .ensures) (c .before .before .if1 .taken) (c .match .keys2)
+
+-- src/lib.rt:114:12
+matches-requires : tie.Need-matches-requires Inv-loop μ-loop
+matches-requires c κs = search needs
+
+-- src/lib.rt:115:13
+returns-2 : tie.Need-returns-2 Inv-loop μ-loop
+returns-2 c =
+    let g = c .before .before .before .before .before .before .before .before .before .before .before .args in
+    let s = g .body .now in
+    let at = c .before .before .before .before .before .before .before .before .loop in
+    let took : walkOf s (at .c) ≡ Took (c .before .before .before .f .given .0 .0) (c .before .before .before .f .given .0 .1 .0) = sym (c .before .before .before .before .before .walk .ensures) ∙ c .before .before .before .f .given .1 in
+    hunts-found s (g .low) (g .high) (at .c) (at .number) (at .first) (at .inv) _ _ took (sym (c .before .matches .ensures) ∙ c .if2 .taken)
+
+-- src/lib.rt:117:19
+record-end-requires : tie.Need-record-end-requires Inv-loop μ-loop
+record-end-requires c κs = search needs
+
+-- src/lib.rt:117:9
+add-number : tie.Need-add-number Inv-loop μ-loop
+add-number c =
+    let g = c .before .before .before .before .before .before .before .before .before .before .before .before .args in
+    let s = g .body .now in
+    let at = c .before .before .before .before .before .before .before .before .before .loop in
+    omega (arith, at .inv .few, at .inv .along .within, c .record-end .ensures, at-most-one (at .c .«in_record») (c .before .before .before .before .f .given .0 .0 .kind))
+
+-- src/lib.rt:118:9
+first-place-requires : tie.Need-first-place-requires Inv-loop μ-loop
+first-place-requires c κs = search needs
+
+-- src/lib.rt:109:5
+loop-less : tie.Need-loop-less Inv-loop μ-loop
+loop-less c =
+    let g = c .before .before .before .before .before .before .before .before .before .before .before .before .before .args in
+    let s = g .body .now in
+    let at = c .before .before .before .before .before .before .before .before .before .before .loop in
+    let took : walkOf s (at .c) ≡ Took (c .before .before .before .before .before .f .given .0 .0) (c .before .before .before .before .before .f .given .0 .1 .0) = sym (c .before .before .before .before .before .before .before .walk .ensures) ∙ c .before .before .before .before .before .f .given .1 in
+    omega (arith, forward s (at .c) _ _ took)
+
+-- src/lib.rt:109:5
+loop-again : tie.Need-loop-again Inv-loop μ-loop
+loop-again c =
+    let g = c .before .before .before .before .before .before .before .before .before .before .before .before .before .args in
+    let s = g .body .now in
+    let at = c .before .before .before .before .before .before .before .before .before .before .loop in
+    let took : walkOf s (at .c) ≡ Took (c .before .before .before .before .before .f .given .0 .0) (c .before .before .before .before .before .f .given .0 .1 .0) = sym (c .before .before .before .before .before .before .before .walk .ensures) ∙ c .before .before .before .before .before .f .given .1 in
+    hunts-took s (g .low) (g .high) (at .c) (at .number) (at .first) (at .inv) _ _ took _ _ (sym (c .before .before .before .matches .ensures) ∙ c .before .before .if2 .left) (c .before .record-end .ensures) (c .first-place .ensures)
+
+-- src/lib.rt:102:1
+returns-3 : tie.Need-returns-3 Inv-loop μ-loop
+returns-3 c =
+    let g = c .before .before .before .before .before .args in
+    let s = g .body .now in
+    let at = c .before .before .loop in
+    hunts-stop s (g .low) (g .high) (at .c) (at .number) (at .first) (at .inv) (c .if1 .left)
+
+pub seek-spec : {M : Type 1} → statement M
+seek-spec =
+    tie.close
+    (tie.spec
+    Inv-loop
+    μ-loop
+    start-requires
+    loop-holds
+    walk-requires
+    enum-known-f
+    returns
+    matches-requires
+    returns-2
+    record-end-requires
+    add-number
+    first-place-requires
+    loop-less
+    loop-again
+    returns-3)

@@ -1,0 +1,6 @@
+pub mod Division
+pub mod Sections
+pub mod WellFormed
+pub mod Decision
+pub mod Find
+pub mod Tally

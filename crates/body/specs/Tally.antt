@@ -1,0 +1,60 @@
+-- What the code keeps of the section that it is in, the header or a record. Nothing here is to be believed: the contract of `judge` does not mention it.
+use Prim.Native.Nat.{ℕ}
+use mathlib.Core.Bool.{Bool, true, false, cond, not, _&&_}
+use mathlib.Core.List.{List, [], _∷_}
+use lib.Dec.{eqb, leb}
+use lib.ListN.{getD, set, replicate}
+use Rattle.fields.specs.Value.{among}
+use Rattle.body.specs.WellFormed.{onceInHeader}
+use Rattle.body.specs.Sections.{runs}
+use Rattle.body.specs.Decision.{fieldsOf, exactFrom, endsEmpty, goodRuns, headersOf, recordsOf}
+use Rattle.body.specs.declared.tally.Section.{Section}
+use Rattle.body.specs.declared.Judged.{Judged}
+use Rattle.body.specs.declared.Judged.the-variants.{Counts, NotWellFormed}
+
+-- the types that may occur once only, and the lengths that they may have
+unfoldable pub once : Bool → List ℕ
+once false = onceInHeader
+once true = 0x01 ∷ 0x03 ∷ 0x06 ∷ []
+
+unfoldable pub lengthFits : Bool → ℕ → ℕ → Bool
+lengthFits false k n = true
+lengthFits true k n = cond (eqb k 0x01) (eqb n 16) (cond (eqb k 0x03) (leb 1 n) (cond (eqb k 0x06) (leb 1 n) true))
+
+-- nothing seen yet; what came before was right or not
+abbrev pub emptySection : Bool → Section
+emptySection b = record { seen = replicate 20 false; fine = b; used = false }
+
+abbrev pub stillFine : Section → Bool → ℕ → ℕ → Bool
+stillFine x r k n =
+    cond (x .fine) (cond (lengthFits r k n) (cond (among k (once r)) (not (getD (x .seen) k false)) true) false) false
+
+-- one field more
+abbrev pub noted : Section → Bool → ℕ → ℕ → Section
+noted x r k n =
+    record { seen = cond (among k (once r)) (set (x .seen) k true) (x .seen); fine = stillFine x r k n; used = true }
+
+-- the section may end here
+abbrev pub passes : Section → Bool → Bool
+passes x r =
+    cond (x .fine) (cond r (cond (getD (x .seen) 1 false) (cond (getD (x .seen) 3 false) (getD (x .seen) 6 false) false) false) true) false
+
+-- a field of type k and length n: an END ends the section
+abbrev pub stepped : Section → Bool → ℕ → ℕ → Section
+stepped x r k n = cond (eqb k 0xff) (emptySection (passes x r)) (noted x r k n)
+
+-- 1 for a header field, 1 for the END of a record
+abbrev pub headerField : Bool → ℕ → ℕ
+headerField r k = cond r 0 (cond (eqb k 0xff) 0 1)
+
+abbrev pub recordEnd : Bool → ℕ → ℕ
+recordEnd r k = cond r (cond (eqb k 0xff) 1 0) 0
+
+-- the first place of the present section: the next place after an END
+abbrev pub firstPlace : ℕ → ℕ → ℕ → ℕ
+firstPlace k p q = cond (eqb k 0xff) q p
+
+-- all but Version
+unfoldable pub sectionsOf : List ℕ → Judged
+sectionsOf s =
+    cond (exactFrom s 0 && (endsEmpty (fieldsOf s) && goodRuns false (runs (fieldsOf s)))) (Counts (headersOf s) (recordsOf s)) NotWellFormed

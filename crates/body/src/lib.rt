@@ -1,0 +1,135 @@
+// The well-formed body: judging it, and finding a record in it. Both go by the one walk.
+use fields::Cursor;
+use fields::Value;
+use fields::Walked;
+
+mod tally;
+
+ghost use mathlib.Core.Path.{_≡_};
+ghost use mathlib.Core.Bool.{true, _&&_};
+ghost use Rattle.body.specs.Sections.{runs};
+ghost use Rattle.body.specs.Decision.{fieldsOf, versionFirst, wellFormed, judgedOf};
+ghost use Rattle.body.specs.Find.{isUuid, soughtIn, findOf};
+ghost use Rattle.body.specs.Tally.{sectionsOf};
+
+// How many header fields and records a body has, or that it is not well formed.
+pub enum Judged {
+    Counts(usize, usize),
+    NotWellFormed,
+}
+
+// The number of a record and the place of its first field.
+pub enum Sought {
+    At(usize, usize),
+    Nowhere,
+    NotWellFormed,
+}
+
+pub struct Found {
+    pub sought: Sought,
+}
+
+// The first field is Version, of 2 bytes, and the second of them is 03.
+fn version_first(body: &[u8]) -> bool
+    ensures { λ r. ⌜ r ≡ versionFirst (fieldsOf (now (body .entry))) ⌝ }
+{
+    let Walked::Took(f, _) = fields::walk(body, fields::start()) else {
+        return false;
+    };
+    if f.kind != 0x00 {
+        return false;
+    }
+    if f.len != 2 {
+        return false;
+    }
+    body[6] == 0x03
+}
+
+// Whether each section ends at an END and is good, with nothing after the last, and the counts.
+fn sections(body: &[u8]) -> Judged
+    ensures { λ r. ⌜ r ≡ sectionsOf (now (body .entry)) ⌝ }
+{
+    let mut c = fields::start();
+    let mut x = tally::empty(true);
+    let mut headers: usize = 0;
+    let mut records: usize = 0;
+    while c.place < body.len() {
+        let Walked::Took(f, next) = fields::walk(body, c) else {
+            return Judged::NotWellFormed;
+        };
+        headers += tally::header_field(c.in_record, f.kind);
+        records += tally::record_end(c.in_record, f.kind);
+        x = tally::step(x, c.in_record, f.kind, f.len);
+        c = next;
+    }
+    if x.used {
+        return Judged::NotWellFormed;
+    }
+    if x.fine {
+        if c.in_record {
+            return Judged::Counts(headers, records);
+        }
+        return Judged::NotWellFormed;
+    }
+    Judged::NotWellFormed
+}
+
+pub fn judge(body: &[u8]) -> Judged
+    ensures { λ r. ⌜ r ≡ judgedOf (now (body .entry)) ⌝ }
+{
+    if version_first(body) {
+        return sections(body);
+    }
+    Judged::NotWellFormed
+}
+
+// A record's field with the UUID of these halves.
+fn matches(in_record: bool, v: Value, low: u64, high: u64) -> bool
+    ensures { λ r. ⌜ r ≡ («in_record» && isUuid v low high) ⌝ }
+{
+    if in_record {
+        let Value::Uuid(x, y) = v else {
+            return false;
+        };
+        if x == low {
+            return y == high;
+        }
+        return false;
+    }
+    false
+}
+
+fn seek(body: &[u8], low: u64, high: u64) -> Sought
+    requires { ⌜ wellFormed (now body) ≡ true ⌝ }
+    ensures { λ r. ⌜ r ≡ soughtIn low high (runs (fieldsOf (now (body .entry)))) ⌝ }
+{
+    let mut c = fields::start();
+    let mut number: usize = 0;
+    let mut first: usize = 0;
+    while c.place < body.len() {
+        let Walked::Took(f, next) = fields::walk(body, c) else {
+            return Sought::NotWellFormed;
+        };
+        let v = f.value;
+        if matches(c.in_record, v, low, high) {
+            return Sought::At(number, first);
+        }
+        number += tally::record_end(c.in_record, f.kind);
+        first = tally::first_place(f.kind, first, next.place);
+        c = next;
+    }
+    Sought::Nowhere
+}
+
+// The first record with the UUID of these halves.
+pub fn find(body: &[u8], low: u64, high: u64) -> Found
+    ensures { λ r. ⌜ r ≡ findOf (now (body .entry)) low high ⌝ }
+{
+    let Judged::Counts(_, _) = judge(body) else {
+        return Found {
+            sought: Sought::NotWellFormed,
+        };
+    };
+    let sought = seek(body, low, high);
+    Found { sought: sought }
+}

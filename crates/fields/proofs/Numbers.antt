@@ -1,0 +1,75 @@
+-- The number of every answer, in the order of the document, and that a contract leaves one answer only: by the tests, and by transitivity.
+use Prim.Native.Nat.{ℕ, _+_}
+use mathlib.Core.Path.{_≡_, refl, sym, ap, _∙_}
+use mathlib.Core.Bool.{Bool, true, false, cond}
+use mathlib.Core.List.{List, [], _∷_}
+use lib.Dec.{eqb}
+use lib.ListN.{length, getD}
+use Rattle.fields.specs.Stored.{Stored, roomOf}
+use Rattle.fields.specs.Walk.{walkOf, walkNumber, misplaced, broken, endWithData, fieldAt, after}
+use Rattle.fields.specs.Append.{appendOf, appendNumber, appendValues, badFill, noRoom, bufferAfter}
+use Rattle.fields.specs.declared.Cursor.{Cursor}
+use Rattle.fields.specs.declared.Field.{Field}
+use Rattle.fields.specs.declared.Walked.{Walked}
+use Rattle.fields.specs.declared.Walked.the-variants as walked
+use Rattle.fields.specs.declared.store.Appended.{Appended}
+use Rattle.fields.specs.declared.store.Appended.the-variants as appended
+
+-- walk: 11, then 14
+pub walk-numbers : (s : List ℕ) (c : Cursor)
+    → walkNumber (walkOf s c) ≡ cond (misplaced s (c .place)) 11 (cond (eqb (c .place) (length s)) 0 (cond (broken s (c .place)) 14 0))
+unfolding walkOf
+walk-numbers s c = by (misplaced s (c .place)) (eqb (c .place) (length s)) (broken s (c .place)) (fieldAt s c) (after s c)
+  where
+    by : (m e b : Bool) (f : Field) (d : Cursor)
+        → walkNumber (cond m walked.Misplaced (cond e walked.Finished (cond b walked.Broken (walked.Took f d)))) ≡ cond m 11 (cond e 0 (cond b 14 0))
+    by true e b f d = refl
+    by false true b f d = refl
+    by false false true f d = refl
+    by false false false f d = refl
+
+-- append: 11, 13, 12, 3
+pub append-numbers : (b : List ℕ) (p : ℕ) (f : Stored)
+    → appendNumber (appendOf b p f)
+    ≡ cond (misplaced b p) 11 (cond (endWithData (f .kind) (length (f .content))) 13 (cond (badFill f) 12 (cond (noRoom b (p + roomOf (length (f .content)))) 3 0)))
+unfolding appendOf
+append-numbers b p f = by (misplaced b p) (endWithData (f .kind) (length (f .content))) (badFill f) (noRoom b (p + roomOf (length (f .content)))) (p + roomOf (length (f .content)))
+  where
+    by : (m e u n : Bool) (q : ℕ)
+        → appendNumber (cond m appended.Misplaced (cond e appended.EndWithData (cond u appended.BadFill (cond n appended.NoRoom (appended.Next q)))))
+        ≡ cond m 11 (cond e 13 (cond u 12 (cond n 3 0)))
+    by true e u n q = refl
+    by false true u n q = refl
+    by false false true n q = refl
+    by false false false true q = refl
+    by false false false false q = refl
+
+-- the answer of an append with a number and values
+abbrev appendedBy : ℕ → List ℕ → Appended
+appendedBy n v =
+    cond (eqb n 11) appended.Misplaced
+    (cond (eqb n 13) appended.EndWithData
+    (cond (eqb n 12) appended.BadFill
+    (cond (eqb n 3) appended.NoRoom (appended.Next (getD v 0 0)))))
+
+append-said : (r : Appended) → appendedBy (appendNumber r) (appendValues r) ≡ r
+append-said (appended.Next q) = refl
+append-said appended.Misplaced = refl
+append-said appended.EndWithData = refl
+append-said appended.BadFill = refl
+append-said appended.NoRoom = refl
+
+-- number and values tell the answer
+pub append-told : (r r′ : Appended) → appendNumber r ≡ appendNumber r′ → appendValues r ≡ appendValues r′ → r ≡ r′
+append-told r r′ n v =
+    sym (append-said r) ∙ ap (λ (k : ℕ). appendedBy k (appendValues r)) n ∙ ap (appendedBy (appendNumber r′)) v ∙ append-said r′
+
+-- no second answer
+pub walk-one : (s : List ℕ) (c : Cursor) (r r′ : Walked) → r ≡ walkOf s c → r′ ≡ walkOf s c → r ≡ r′
+walk-one s c r r′ h h′ = h ∙ sym h′
+
+pub append-one : (b : List ℕ) (p : ℕ) (f : Stored) (r r′ : Appended) (m m′ : List ℕ)
+    → (r ≡ appendOf b p f) × (m ≡ bufferAfter r b p f) → (r′ ≡ appendOf b p f) × (m′ ≡ bufferAfter r′ b p f) → (r ≡ r′) × (m ≡ m′)
+append-one b p f r r′ m m′ h h′ =
+    let e : r ≡ r′ = h .0 ∙ sym (h′ .0) in
+    (e, h .1 ∙ ap (λ (x : Appended). bufferAfter x b p f) e ∙ sym (h′ .1))

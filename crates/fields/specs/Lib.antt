@@ -1,0 +1,4 @@
+pub mod Stored
+pub mod Value
+pub mod Walk
+pub mod Append

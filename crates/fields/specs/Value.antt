@@ -1,0 +1,82 @@
+-- What the data of a field stands for (document 01, the list of values).
+use Prim.Native.Nat.{ℕ, zero, suc, _-_}
+use mathlib.Core.Bool.{Bool, true, false, cond, not, _||_}
+use mathlib.Core.List.{List, [], _∷_, _++_}
+use lib.Dec.{eqb}
+use lib.ListN.{length, getD, take, drop}
+use Rattle.words.specs.Numbers.{numberLow}
+use Rattle.text.specs.Decision.{textOf}
+use Rattle.fields.specs.declared.value.Shape.{Shape}
+use Rattle.fields.specs.declared.value.Shape.the-variants as Shape
+use Rattle.fields.specs.declared.value.Value.{Value}
+use Rattle.fields.specs.declared.value.Value.the-variants as Value
+
+-- k is in the list
+abbrev pub among : ℕ → List ℕ → Bool
+among k [] = false
+among k (t ∷ ts) = eqb k t || among k ts
+
+-- the n numbers from a on
+abbrev pub counted : ℕ → ℕ → List ℕ
+counted a zero = []
+counted a (suc n) = a ∷ counted (suc a) n
+
+-- the numbers a to b
+abbrev pub to : ℕ → ℕ → List ℕ
+to a b = counted a (suc b - a)
+
+-- the types of each value: in the header, and in a record
+abbrev pub headerTypes : Shape → List ℕ
+headerTypes Shape.Uuid = 0x01 ∷ []
+headerTypes Shape.Time = 0x04 ∷ 0x13 ∷ []
+headerTypes Shape.Word = []
+headerTypes Shape.Half = 0x00 ∷ []
+headerTypes Shape.Flag = []
+headerTypes Shape.Text = 0x02 ∷ 0x03 ∷ to 0x05 0x0b ++ (0x0f ∷ 0x10 ∷ 0x11 ∷ [])
+headerTypes Shape.Opaque = []
+
+abbrev pub recordTypes : Shape → List ℕ
+recordTypes Shape.Uuid = 0x01 ∷ []
+recordTypes Shape.Time = 0x07 ∷ 0x08 ∷ 0x09 ∷ 0x0a ∷ 0x0c ∷ []
+recordTypes Shape.Word = 0x11 ∷ 0x19 ∷ []
+recordTypes Shape.Half = 0x13 ∷ 0x17 ∷ []
+recordTypes Shape.Flag = 0x15 ∷ []
+recordTypes Shape.Text = to 0x02 0x06 ++ (to 0x0d 0x10 ++ (0x12 ∷ 0x14 ∷ 0x16 ∷ 0x18 ∷ to 0x1c 0x20))
+recordTypes Shape.Opaque = []
+
+-- a type in none of the lists is Opaque
+abbrev pub shapeBy : (Shape → List ℕ) → ℕ → Shape
+shapeBy types k =
+    cond (among k (types Shape.Uuid)) Shape.Uuid
+    (cond (among k (types Shape.Time)) Shape.Time
+    (cond (among k (types Shape.Word)) Shape.Word
+    (cond (among k (types Shape.Half)) Shape.Half
+    (cond (among k (types Shape.Flag)) Shape.Flag
+    (cond (among k (types Shape.Text)) Shape.Text Shape.Opaque)))))
+
+unfoldable pub headerShape : ℕ → Shape
+headerShape k = shapeBy headerTypes k
+
+unfoldable pub recordShape : ℕ → Shape
+recordShape k = shapeBy recordTypes k
+
+-- a value of n bytes; a field of another size is Misshapen
+abbrev pub sized : ℕ → List ℕ → Value → Value
+sized n d v = cond (eqb (length d) n) v Value.Misshapen
+
+-- Uuid: bytes 0 to 7 and bytes 8 to 15, each little-endian, as every stored number
+abbrev pub shapedOf : Shape → List ℕ → Value
+shapedOf Shape.Uuid d = sized 16 d (Value.Uuid (numberLow (take 8 d)) (numberLow (take 8 (drop 8 d))))
+shapedOf Shape.Time d = sized 4 d (Value.Time (numberLow d))
+shapedOf Shape.Word d = sized 4 d (Value.Number (numberLow d))
+shapedOf Shape.Half d = sized 2 d (Value.Number (numberLow d))
+shapedOf Shape.Flag d = sized 1 d (Value.Flag (not (eqb (getD d 0 0) 0)))
+shapedOf Shape.Text d = cond (textOf d) Value.Text Value.BadText
+shapedOf Shape.Opaque d = Value.Opaque
+
+-- r: in a record, not in the header; k: the type; d: the data
+unfoldable pub valueOf : Bool → ℕ → List ℕ → Value
+valueOf r k d =
+    cond (eqb k 0xff) Value.End
+    (cond (eqb (length d) 0) Value.Empty
+    (shapedOf (cond r (recordShape k) (headerShape k)) d))

@@ -1,0 +1,114 @@
+// The fields of a V3 body: the walk from field to field, and append.
+pub mod store;
+pub mod value;
+
+pub use store::Appended;
+pub use store::append;
+pub use value::Value;
+
+ghost use mathlib.Core.Path.{_≡_};
+ghost use mathlib.Core.Bool.{_||_};
+ghost use lib.Dec.{eqb};
+ghost use Rattle.fields.specs.Stored.{fillOf};
+ghost use Rattle.fields.specs.Walk.{start as startOf, endWithData, walkOf};
+
+// Where the walk stands, and whether it is in a record or still in the header.
+pub struct Cursor {
+    pub place: usize,
+    pub in_record: bool,
+}
+
+// A field: its type, the place of its first length byte, the length of its data, and its value.
+pub struct Field {
+    pub kind: u8,
+    pub place: usize,
+    pub len: usize,
+    pub value: Value,
+}
+
+pub enum Walked {
+    Took(Field, Cursor),
+    Finished,
+    Misplaced,
+    Broken,
+}
+
+// The cursor at a body's start.
+pub fn start() -> Cursor
+    ensures { λ r. ⌜ r ≡ startOf ⌝ }
+{
+    Cursor {
+        place: 0,
+        in_record: false,
+    }
+}
+
+// The fill that a field with so many bytes of data needs.
+pub fn fill_for(len: usize) -> usize
+    ensures { λ r. ⌜ r ≡ fillOf len ⌝ }
+{
+    (27 - len % 16) % 16
+}
+
+pub fn end_with_data(kind: u8, len: usize) -> bool
+    ensures { λ r. ⌜ r ≡ endWithData kind len ⌝ }
+{
+    if kind != 0xff {
+        return false;
+    }
+    len != 0
+}
+
+// In a record, after a field of this type.
+fn passed(in_record: bool, kind: u8) -> bool
+    ensures { λ r. ⌜ r ≡ («in_record» || eqb kind 0xff) ⌝ }
+{
+    if in_record {
+        return true;
+    }
+    kind == 0xff
+}
+
+// The field at the cursor, and the cursor after it.
+pub fn walk(body: &[u8], c: Cursor) -> Walked
+    ensures { λ r. ⌜ r ≡ walkOf (now (body .entry)) c ⌝ }
+{
+    let at = c.place;
+    let in_record = c.in_record;
+    let n = body.len();
+    if at % 16 != 0 {
+        return Walked::Misplaced;
+    }
+    if n < at {
+        return Walked::Misplaced;
+    }
+    if at == n {
+        return Walked::Finished;
+    }
+    if n - at < 16 {
+        return Walked::Broken;
+    }
+    let len = words::numbers::low(body[at], body[at + 1], body[at + 2], body[at + 3]) as usize;
+    let kind = body[at + 4];
+    let room = 5 + len + fill_for(len);
+    if n - at < room {
+        return Walked::Broken;
+    }
+    if end_with_data(kind, len) {
+        return Walked::Broken;
+    }
+    let start = at + 5;
+    let end = start + len;
+    let value = value::value_of(in_record, kind, &body[start..end]);
+    let field = Field {
+        kind: kind,
+        place: at,
+        len: len,
+        value: value,
+    };
+    let next = Cursor {
+        place: at + room,
+        in_record: passed(in_record, kind),
+    };
+    Walked::Took(field, next)
+}

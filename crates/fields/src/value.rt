@@ -1,0 +1,198 @@
+// What the data of a field stands for.
+ghost use mathlib.Core.Path.{_≡_};
+ghost use Prim.Native.Nat.{_+_, _*_, _^_};
+ghost use Rattle.fields.specs.Value.{headerShape, recordShape, shapedOf, valueOf};
+
+// How the data of a field of some type is to be read: Word and Half are numbers of 4 and 2 bytes.
+pub enum Shape {
+    Uuid,
+    Time,
+    Word,
+    Half,
+    Flag,
+    Text,
+    Opaque,
+}
+
+pub enum Value {
+    Empty,
+    End,
+    Uuid(u64, u64),
+    Time(u32),
+    Number(u32),
+    Flag(bool),
+    Text,
+    BadText,
+    Misshapen,
+    Opaque,
+}
+
+fn header_shape(kind: u8) -> Shape
+    ensures { λ r. ⌜ r ≡ headerShape kind ⌝ }
+{
+    if kind == 0x00 {
+        return Shape::Half;
+    }
+    if kind == 0x01 {
+        return Shape::Uuid;
+    }
+    if kind == 0x04 {
+        return Shape::Time;
+    }
+    if kind < 0x0c {
+        return Shape::Text;
+    }
+    if kind < 0x0f {
+        return Shape::Opaque;
+    }
+    if kind < 0x12 {
+        return Shape::Text;
+    }
+    if kind == 0x13 {
+        return Shape::Time;
+    }
+    Shape::Opaque
+}
+
+fn record_shape(kind: u8) -> Shape
+    ensures { λ r. ⌜ r ≡ recordShape kind ⌝ }
+{
+    if kind == 0x00 {
+        return Shape::Opaque;
+    }
+    if kind == 0x01 {
+        return Shape::Uuid;
+    }
+    if kind < 0x07 {
+        return Shape::Text;
+    }
+    if kind < 0x0b {
+        return Shape::Time;
+    }
+    if kind == 0x0b {
+        return Shape::Opaque;
+    }
+    if kind == 0x0c {
+        return Shape::Time;
+    }
+    if kind == 0x11 {
+        return Shape::Word;
+    }
+    if kind == 0x13 {
+        return Shape::Half;
+    }
+    if kind == 0x15 {
+        return Shape::Flag;
+    }
+    if kind == 0x17 {
+        return Shape::Half;
+    }
+    if kind < 0x19 {
+        return Shape::Text;
+    }
+    if kind == 0x19 {
+        return Shape::Word;
+    }
+    if kind < 0x1c {
+        return Shape::Opaque;
+    }
+    if kind < 0x21 {
+        return Shape::Text;
+    }
+    Shape::Opaque
+}
+
+// Two words as one number, the low one first.
+fn joined(low: u32, high: u32) -> u64
+    ensures { λ r. ⌜ r ≡ low + 2 ^ 32 * high ⌝ }
+{
+    (low as u64) + 4294967296 * (high as u64)
+}
+
+fn uuid(d: &[u8]) -> Value
+    ensures { λ r. ⌜ r ≡ shapedOf Shape.Uuid (now (d .entry)) ⌝ }
+{
+    if d.len() != 16 {
+        return Value::Misshapen;
+    }
+    let a = words::numbers::low(d[0], d[1], d[2], d[3]);
+    let b = words::numbers::low(d[4], d[5], d[6], d[7]);
+    let c = words::numbers::low(d[8], d[9], d[10], d[11]);
+    let e = words::numbers::low(d[12], d[13], d[14], d[15]);
+    Value::Uuid(joined(a, b), joined(c, e))
+}
+
+fn time(d: &[u8]) -> Value
+    ensures { λ r. ⌜ r ≡ shapedOf Shape.Time (now (d .entry)) ⌝ }
+{
+    if d.len() != 4 {
+        return Value::Misshapen;
+    }
+    Value::Time(words::numbers::low(d[0], d[1], d[2], d[3]))
+}
+
+fn word(d: &[u8]) -> Value
+    ensures { λ r. ⌜ r ≡ shapedOf Shape.Word (now (d .entry)) ⌝ }
+{
+    if d.len() != 4 {
+        return Value::Misshapen;
+    }
+    Value::Number(words::numbers::low(d[0], d[1], d[2], d[3]))
+}
+
+fn half(d: &[u8]) -> Value
+    ensures { λ r. ⌜ r ≡ shapedOf Shape.Half (now (d .entry)) ⌝ }
+{
+    if d.len() != 2 {
+        return Value::Misshapen;
+    }
+    Value::Number(words::numbers::low(d[0], d[1], 0, 0))
+}
+
+fn flag(d: &[u8]) -> Value
+    ensures { λ r. ⌜ r ≡ shapedOf Shape.Flag (now (d .entry)) ⌝ }
+{
+    if d.len() != 1 {
+        return Value::Misshapen;
+    }
+    Value::Flag(d[0] != 0)
+}
+
+fn plain(d: &[u8]) -> Value
+    ensures { λ r. ⌜ r ≡ shapedOf Shape.Text (now (d .entry)) ⌝ }
+{
+    if text::is_text(d) {
+        return Value::Text;
+    }
+    Value::BadText
+}
+
+// The value of data that is neither empty nor an END's.
+fn shaped(s: Shape, d: &[u8]) -> Value
+    ensures { λ r. ⌜ r ≡ shapedOf s (now (d .entry)) ⌝ }
+{
+    match s {
+        Shape::Uuid => uuid(d),
+        Shape::Time => time(d),
+        Shape::Word => word(d),
+        Shape::Half => half(d),
+        Shape::Flag => flag(d),
+        Shape::Text => plain(d),
+        Shape::Opaque => Value::Opaque,
+    }
+}
+
+pub fn value_of(in_record: bool, kind: u8, d: &[u8]) -> Value
+    ensures { λ r. ⌜ r ≡ valueOf «in_record» kind (now (d .entry)) ⌝ }
+{
+    if kind == 0xff {
+        return Value::End;
+    }
+    if d.len() == 0 {
+        return Value::Empty;
+    }
+    if in_record {
+        return shaped(record_shape(kind), d);
+    }
+    shaped(header_shape(kind), d)
+}

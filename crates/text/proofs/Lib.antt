@@ -1,0 +1,4 @@
+pub mod Tests
+mod Runs
+pub mod Grammar
+pub mod Text

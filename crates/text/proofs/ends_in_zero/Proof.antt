@@ -1,0 +1,14 @@
+-- `ends_in_zero` meets its contract: each return is the case of the chain that its tests pick.
+use Rattle.text.proofs.Tests.{tests}
+use borrow.Author.Needs.{needs}
+use Rattle.text.proofs.ends_in_zero.Statement.{statement}
+use Rattle.text.proofs.ends_in_zero.Tie as tie
+
+returns : tie.Need-returns
+returns c = search tests
+
+returns-2 : tie.Need-returns-2
+returns-2 c = search tests
+
+pub ends-in-zero-spec : {M : Type 1} → statement M
+ends-in-zero-spec = tie.close (tie.spec returns (λ c. search needs) (λ c. search needs) returns-2)

@@ -1,0 +1,57 @@
+-- The decision that the code makes: a run over the bytes, and two looks at the ends. It holds exactly for the texts of `Grammar.antt` (proofs/Text.antt).
+use Prim.Native.Nat.{ℕ, _-_}
+use mathlib.Core.List.{List, [], _∷_}
+use mathlib.Core.Bool.{Bool, true, false, cond}
+use lib.Dec.{ltb, leb, eqb}
+use lib.ListN.{length, getD}
+use Rattle.text.specs.declared.Utf8.{Utf8}
+use Rattle.text.specs.declared.Utf8.the-variants.{Start, More, Bad}
+
+-- what a first byte lets follow
+abbrev pub firstOf : ℕ → Utf8
+firstOf b =
+    cond (ltb b 0x80) Start
+    (cond (ltb b 0xc2) Bad
+    (cond (ltb b 0xe0) (More 1 0x80 0xbf)
+    (cond (eqb b 0xe0) (More 2 0xa0 0xbf)
+    (cond (eqb b 0xed) (More 2 0x80 0x9f)
+    (cond (ltb b 0xf0) (More 2 0x80 0xbf)
+    (cond (eqb b 0xf0) (More 3 0x90 0xbf)
+    (cond (ltb b 0xf4) (More 3 0x80 0xbf)
+    (cond (eqb b 0xf4) (More 3 0x80 0x8f) Bad))))))))
+
+-- what a byte lets follow, by what may come
+abbrev pub stepOf : Utf8 → ℕ → Utf8
+stepOf Start b = firstOf b
+stepOf (More left low high) b =
+    cond (ltb b low) Bad (cond (ltb high b) Bad (cond (leb left 1) Start (More (left - 1) 0x80 0xbf)))
+stepOf Bad b = Bad
+
+-- a character ends here
+abbrev pub whole : Utf8 → Bool
+whole Start = true
+whole (More left low high) = false
+whole Bad = false
+
+-- whether the bytes, from a state on, end where a character ends
+unfoldable pub runs : Utf8 → List ℕ → Bool
+runs u [] = whole u
+runs u (b ∷ bs) = runs (stepOf u b) bs
+
+-- well-formed UTF-8
+abbrev pub utf8Of : List ℕ → Bool
+utf8Of s = runs Start s
+
+-- starts with the byte order mark
+abbrev pub markedOf : List ℕ → Bool
+markedOf s =
+    cond (ltb (length s) 3) false
+    (cond (eqb (getD s 0 0) 0xef) (cond (eqb (getD s 1 0) 0xbb) (eqb (getD s 2 0) 0xbf) false) false)
+
+-- ends in 00
+abbrev pub endsInZero : List ℕ → Bool
+endsInZero s = cond (eqb (length s) 0) false (eqb (getD s (length s - 1) 0) 0)
+
+-- a text
+abbrev pub textOf : List ℕ → Bool
+textOf s = cond (markedOf s) false (cond (endsInZero s) false (utf8Of s))
