@@ -157,7 +157,7 @@ module _ (E : Edition) (X : Laws E) where
           body-most = omega (arith, hb .long);
           body-whole = omega (arith, hb .long);
           covered = E .covered (bodyOf E p s n .done);
-          well-formed = X .describes (bodyOf E p s n .done) (not-false (E .wellFormed (bodyOf E p s n .done)) (w .fine));
+          well-formed = X .describes (bodyOf E p s n .done) (hb .bytes) (not-false (E .wellFormed (bodyOf E p s n .done)) (w .fine));
           no-marker = clear-each (length (bodyOf E p s n .done) / 16) (cbc E (keyK E p s) (p .iv) (bodyOf E p s n .done)) (rw (blocks, ec) (mk .0));
           is-file = sym (join-split file (omega arith)) ∙ ap join (parts-are
               (same-of (p .tag) tag (e .t4)) (sym (iter-again (p .iter) (b .iter-bytes) (l .iter-long)))

@@ -2,7 +2,7 @@
 use Prim.Native.Nat.{ℕ, _≤_}
 use mathlib.Core.Path.{_≡_, refl, sym, ap, _∙_}
 use mathlib.Core.Bool.{Bool, true, false, cond, _&&_}
-use mathlib.Core.List.{List, [], _∷_}
+use mathlib.Core.List.{List, [], _∷_, _++_}
 use native.Mathlib.Omega.{arith}
 use lib.Dec.{leb}
 use borrow.Author.Tests.{leb-true}
@@ -57,3 +57,8 @@ module _ {A : Type 0} (refuse : ℕ → A) (y : A) (b : ℕ) (ts : List Test) (r
       go : Decided (λ (n : ℕ). n) ts 0 → deciding refuse ts y ≡ refuse k
       go (passes p q) = absurd (omega arith)
       go (stops m f q) = first-stops refuse y m ts f ∙ ap refuse (sym q ∙ sym e)
+
+-- one table after another
+pub deciding-append : {A : Type 0} (refuse : ℕ → A) (ts us : List Test) (y : A) → deciding refuse (ts ++ us) y ≡ deciding refuse ts (deciding refuse us y)
+deciding-append refuse [] us y = refl
+deciding-append refuse (t ∷ ts) us y = ap (cond (t .fails) (refuse (t .number))) (deciding-append refuse ts us y)

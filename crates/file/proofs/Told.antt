@@ -17,7 +17,7 @@ use Rattle.file.specs.Layout.{Parts, split, differ}
 use Rattle.file.specs.Refusals.{Test, refuse-if, deciding, First, rising}
 use Rattle.file.specs.Edition.{Edition, Stretched, Laws}
 use Rattle.file.specs.Reading.{Report, refused, accepted, workspaceOf, earlyTests, keysOpened, bodyOpened, keyK, keyL, bodyOf, bodyTests, judged, checked, readingOf}
-use Rattle.file.specs.Writing.{writeTests}
+use Rattle.file.specs.Writing.{earlyWriteTests, writeTests}
 use Rattle.file.proofs.Tables.{Decided, passes, stops, decide, first-between}
 use Rattle.file.proofs.PartLaws.{lengths, split-sizes, bytes-split}
 use Rattle.file.proofs.Passed.{Early}
@@ -109,5 +109,5 @@ unfolding earlyTests
 early-rises E p n file pass ceiling room = refl
 
 pub write-rises : (E : Edition) (pass : List ℕ) (iter : ℕ) (K iv body : List ℕ) (room : ℕ) → rising 1 (writeTests E pass iter K iv body room) ≡ true
-unfolding writeTests
+unfolding writeTests earlyWriteTests
 write-rises E pass iter K iv body room = refl

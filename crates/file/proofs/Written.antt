@@ -15,7 +15,7 @@ use Rattle.file.specs.Layout.{split}
 use Rattle.file.specs.Edition.{Edition, Laws}
 use Rattle.file.specs.Description.{IsSafe, cbc, fileOf}
 use Rattle.file.specs.Reading.{readingOf}
-use Rattle.file.specs.Writing.{Writing, unwritten, badBody, clear, writeTests, writingOf}
+use Rattle.file.specs.Writing.{Writing, unwritten, badBody, clear, earlyWriteTests, writeTests, writingOf}
 use Rattle.file.proofs.Tables.{Decided, passes, stops, decide, all-pass, first-between}
 use Rattle.file.proofs.Markers.{clear-each, each-clear}
 use Rattle.file.proofs.Accepted.{Answers, file-long, safe-read, read-safe}
@@ -56,11 +56,11 @@ is-body n a b c = rw (le-ltb n 32 a, le-ltb 4194096 n b, eq-eqb (n % 16) 0 c)
 module _ (E : Edition) (X : Laws E) (pass salt : List ℕ) (iter : ℕ) (K L iv body : List ℕ) (room : ℕ) where
   is-written : Writes E pass iter K iv body room
       → writingOf E pass salt iter K L iv body room ≡ record { number = 0; output = fileOf E pass salt iter K L iv body (E .covered body) ++ zeros (room - (length body + 200)) }
-  unfolding writingOf writeTests
+  unfolding writingOf writeTests earlyWriteTests
   is-written w = all-pass (λ (k : ℕ). unwritten k room) _ (writeTests E pass iter K iv body room) (w .t1, (w .t2, (w .t3, (w .t5, (w .t9, (w .t10, tt))))))
 
   writes : writingOf E pass salt iter K L iv body room .number ≡ 0 → Writes E pass iter K iv body room
-  unfolding writingOf writeTests unwritten
+  unfolding writingOf writeTests earlyWriteTests unwritten
   writes h = go (decide (λ (k : ℕ). unwritten k room) (record { number = 0; output = fileOf E pass salt iter K L iv body (E .covered body) ++ zeros (room - (length body + 200)) }) (writeTests E pass iter K iv body room))
     where
       go : Decided (λ (k : ℕ). unwritten k room) (writeTests E pass iter K iv body room) (record { number = 0; output = fileOf E pass salt iter K L iv body (E .covered body) ++ zeros (room - (length body + 200)) }) → Writes E pass iter K iv body room
@@ -85,7 +85,7 @@ module _ (E : Edition) (X : Laws E) (pass salt : List ℕ) (iter : ℕ) (K L iv 
         body-most = g .1;
         body-whole = g .2;
         covered = E .covered body;
-        well-formed = X .describes body (not-false (E .wellFormed body) (w .t9));
+        well-formed = X .describes body (v .body-bytes) (not-false (E .wellFormed body) (w .t9));
         no-marker = clear-each (length body / 16) (cbc E K iv body) (not-false (clear (length body / 16) (cbc E K iv body)) (w .t10));
         is-file = refl;
       }

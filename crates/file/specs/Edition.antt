@@ -5,7 +5,7 @@ use mathlib.Core.Path.{_≡_}
 use mathlib.Core.Bool.{Bool, true}
 use mathlib.Core.List.{List}
 use lib.ListN.{length}
-use Rattle.words.specs.Numbers.{Sized}
+use Rattle.words.specs.Numbers.{Bytes, Sized}
 use Rattle.chain.specs.Cipher.{Cipher, CipherLaws}
 
 -- the stretched key P', its check value, and the count of compressions that the check's last step hands on
@@ -41,5 +41,5 @@ pub record Laws (E : Edition) : Type 0 where
       → E .stretched p s n .count ≡ compressionsOf (length p) n
   pub hmac-sized : (k l : List ℕ) → Sized 32 (E .hmac k l)
   pub ciphers : CipherLaws (E .cipher)
-  pub describes : (b : List ℕ) → E .wellFormed b ≡ true → E .Body b (E .covered b)
+  pub describes : (b : List ℕ) → Bytes b → E .wellFormed b ≡ true → E .Body b (E .covered b)
   pub decides : (b d : List ℕ) → E .Body b d → (E .wellFormed b ≡ true) × (E .covered b ≡ d)

@@ -28,15 +28,20 @@ clear zero l = true
 clear (suc n) l = differ (take 16 l) marker && clear n (drop 16 l)
 
 module _ (E : Edition) where
-  unfoldable pub writeTests : (passphrase : List ℕ) (iter : ℕ) (K iv body : List ℕ) (room : ℕ) → List Test
-  writeTests passphrase iter K iv body room =
+  -- 1, 2, 3, 5 and 9: before any work
+  unfoldable pub earlyWriteTests : (passphrase : List ℕ) (iter : ℕ) (body : List ℕ) (room : ℕ) → List Test
+  earlyWriteTests passphrase iter body room =
       refuse-if 1 (badBody (length body))
       ∷ refuse-if 2 (ltb 1024 (length passphrase))
       ∷ refuse-if 3 (ltb room (length body + 200))
       ∷ refuse-if 5 (ltb iter (E .floor))
       ∷ refuse-if 9 (not (E .wellFormed body))
-      ∷ refuse-if 10 (not (clear (length body / 16) (cbc E K iv body)))
       ∷ []
+
+  -- 10: a produced body block equals the marker
+  unfoldable pub writeTests : (passphrase : List ℕ) (iter : ℕ) (K iv body : List ℕ) (room : ℕ) → List Test
+  writeTests passphrase iter K iv body room =
+      earlyWriteTests passphrase iter body room ++ (refuse-if 10 (not (clear (length body / 16) (cbc E K iv body))) ∷ [])
 
   -- accepted: the file, then zeros to the end of the output
   unfoldable pub writingOf : (passphrase salt : List ℕ) (iter : ℕ) (K L iv body : List ℕ) (room : ℕ) → Writing

@@ -1,0 +1,3 @@
+pub mod V3
+pub mod Answers
+pub mod Steps

@@ -1,0 +1,101 @@
+// The refusals that need no work: 1 to 7 of reading, and 1, 2, 3, 5 and 9 of writing.
+use super::Early;
+use super::Refusal;
+use super::values::iter;
+use body::Judged;
+use file::bad_body;
+use file::bad_length;
+use file::first_marker;
+use stretch::Stretcher;
+use words::slices::same;
+ghost use mathlib.Core.Path.{_≡_};
+ghost use mathlib.Core.Bool.{not};
+ghost use Prim.Native.Nat.{ℕ, _+_, _-_, _/_, _%_, _≤_};
+ghost use lib.Dec.{eqb};
+ghost use lib.ListN.{length, take, drop};
+ghost use Rattle.body.specs.Decision.{wellFormed};
+ghost use Rattle.file.specs.Layout.{split, tag, differ, firstMarker};
+ghost use Rattle.file.specs.Refusals.{deciding};
+ghost use Rattle.file.specs.Reading.{earlyTests};
+ghost use Rattle.safe.specs.V3.{v3};
+ghost use Rattle.safe.specs.Answers.{earlyNumber};
+ghost use Rattle.safe.specs.EarlyWriting.{earlyWriteTests};
+
+fn wrong_tag(file: &[u8]) -> bool
+    requires { ⌜ 4 ≤ length (now file) ⌝ }
+    ensures { λ r. ⌜ r ≡ differ (take 4 (now (file .entry))) tag ⌝ }
+{
+    let t = [80u8, 87, 83, 51];
+    if same(&file[..4], &t) {
+        return false;
+    }
+    true
+}
+
+// The first marker from offset 152 on is not right behind the n blocks of the body.
+fn wrong_marker(file: &[u8], n: usize) -> bool
+    requires { ⌜ length (now file) ≡ 200 + 16 * n ⌝ }
+    ensures { λ r. ⌜ r ≡ not (eqb (firstMarker (n + 3) (drop 152 (now (file .entry)))) n) ⌝ }
+{
+    first_marker(&file[152..]) != n
+}
+
+pub fn reading(file: &[u8], passphrase: &[u8], ceiling: u32, room: usize) -> Early
+    ensures { λ r. ⌜ earlyNumber r ≡ deciding (λ (n : ℕ). n) (earlyTests v3 (split (now (file .entry))) ((length (now (file .entry)) - 200) / 16) (now (file .entry)) (now (passphrase .entry)) ceiling room) 0 ⌝ }
+{
+    if bad_length(file.len()) {
+        return Early::Refused(Refusal::Length);
+    }
+    if 1024 < passphrase.len() {
+        return Early::Refused(Refusal::Passphrase);
+    }
+    let n = file.len() - 200;
+    if room < n {
+        return Early::Refused(Refusal::Room);
+    }
+    if wrong_tag(file) {
+        return Early::Refused(Refusal::Tag);
+    }
+    let i = iter(file);
+    if i < Stretcher::FLOOR {
+        return Early::Refused(Refusal::Floor);
+    }
+    if ceiling < i {
+        return Early::Refused(Refusal::Ceiling);
+    }
+    if wrong_marker(file, n / 16) {
+        return Early::Refused(Refusal::Marker);
+    }
+    Early::Passed
+}
+
+fn bad_fields(body: &[u8]) -> bool
+    ensures { λ r. ⌜ r ≡ not (wellFormed (now (body .entry))) ⌝ }
+{
+    let j = body::judge(body);
+    let Judged::Counts(_, _) = j else {
+        return true;
+    };
+    false
+}
+
+pub fn writing(passphrase: &[u8], iter: u32, body: &[u8], room: usize) -> Early
+    ensures { λ r. ⌜ earlyNumber r ≡ deciding (λ (n : ℕ). n) (earlyWriteTests v3 (now (passphrase .entry)) iter (now (body .entry)) room) 0 ⌝ }
+{
+    if bad_body(body.len()) {
+        return Early::Refused(Refusal::Length);
+    }
+    if 1024 < passphrase.len() {
+        return Early::Refused(Refusal::Passphrase);
+    }
+    if room < body.len() + 200 {
+        return Early::Refused(Refusal::Room);
+    }
+    if iter < Stretcher::FLOOR {
+        return Early::Refused(Refusal::Floor);
+    }
+    if bad_fields(body) {
+        return Early::Refused(Refusal::Body);
+    }
+    Early::Passed
+}

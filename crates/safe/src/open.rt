@@ -1,0 +1,64 @@
+// Opening a file that has passed the early tests.
+use super::Outcome;
+use super::Reading;
+use super::Refusal;
+use super::seal::seal;
+use super::values::iter;
+use super::values::value16;
+use super::values::value32;
+use super::wrap::unwrap;
+use body::Judged;
+use stretch::Stretcher;
+use words::slices::copy;
+use words::slices::same;
+use words::slices::zero;
+ghost use mathlib.Core.Path.{_≡_};
+ghost use Prim.Native.Nat.{_+_, _-_, _*_, _/_, _≤_, _<_, _^_};
+ghost use lib.ListN.{length, take, drop};
+ghost use Rattle.words.specs.Numbers.{numberLow};
+ghost use Rattle.words.specs.Slices.{zeros};
+ghost use Rattle.file.specs.Layout.{split};
+ghost use Rattle.file.specs.Reading.{refused as refusedOf, bodyOpened, keysOpened, keyK, keyL, bodyOf, judged as judgedReport, checked as checkedOf};
+ghost use Rattle.safe.specs.V3.{v3, stretchedV3, verdictOf};
+ghost use Rattle.safe.specs.Answers.{refusalNumber, reported};
+ghost use Rattle.safe.specs.Steps.{Decrypted, Reports};
+
+// A refusal: no keys, no counts of fields.
+pub fn refused(x: Refusal, compressions: u64, blocks: u64) -> Reading
+    ensures { λ r. ⌜ reported r [] ≡ refusedOf (refusalNumber x) compressions blocks ⌝ }
+{
+    Reading {
+        outcome: Outcome::Refused(x),
+        k: [0u8; 32],
+        l: [0u8; 32],
+        compressions: compressions,
+        blocks: blocks,
+    }
+}
+
+// The whole body, decrypted into the start of the workspace.
+fn decrypt(file: &[u8], k: &[u8; 32], count: u64, workspace: &mut [u8]) -> u64
+    requires { ⌜ (length (now file) ≡ 200 + 16 * ((length (now file) - 200) / 16)) × (length (now file) - 200 ≤ length (now workspace)) × (count < 2 ^ 32) ⌝ }
+    ensures { λ r. ⌜ Decrypted (bodyOpened v3 (now (k .entry)) (split (now (file .entry)) .iv) ((length (now (file .entry)) - 200) / 16) (split (now (file .entry)) .cipher) count) (now (workspace .entry)) (now (workspace .exit)) r ⌝ }
+{
+    let n = file.len() - 200;
+    let e = 152 + n;
+    let iv = value16(&file[136..152]);
+    copy(&mut workspace[..n], &file[152..e]);
+    chain::cbc_decrypt(k, &iv, &mut workspace[..n], count)
+}
+
+// The counts of a body that is well formed and whose HMAC is mac; both faults are one answer.
+fn judged(body: &[u8], l: &[u8; 32], mac: &[u8]) -> Judged
+    ensures { λ r. ⌜ r ≡ verdictOf (now (l .entry)) (now (mac .entry)) (now (body .entry)) ⌝ }
+{
+    let j = body::judge(body);
+    let Judged::Counts(_, _) = j else {
+        return Judged::NotWellFormed;
+    };
+    let m = seal(l, body);
+    if same(&m, mac) {
+        return j;
+    }
+    Judged::NotWellFormed
+}
