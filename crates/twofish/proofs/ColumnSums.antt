@@ -51,7 +51,7 @@ word-sum a b c d e f g h ha hb hc he hf hg =
     ap₂ _⊕_ (sym (low-word a b c d)) (sym (low-word e f g h))
     ∙ low a e (b + 256 * (c + 256 * d)) (f + 256 * (g + 256 * h)) ha he
     ∙ ap (λ (x : ℕ). (a ⊕ e) + 256 * x)
-        (low b f (c + 256 * d) (g + 256 * h) hb hf ∙ ap (λ (x : ℕ). (b ⊕ f) + 256 * x) (low c g d h hc hg))
+    (low b f (c + 256 * d) (g + 256 * h) hb hf ∙ ap (λ (x : ℕ). (b ⊕ f) + 256 * x) (low c g d h hc hg))
     ∙ low-word (a ⊕ e) (b ⊕ f) (c ⊕ g) (d ⊕ h)
 
 pub columns : (w x y z : ℕ) → w < 256 → x < 256 → y < 256 → z < 256 → col0 w ⊕ col1 x ⊕ col2 y ⊕ col3 z ≡ mds w x y z
@@ -68,11 +68,11 @@ columns w x y z hw hx hy hz =
     let z1 = fits-5b z hz in
     let z2 = fits-ef z hz in
     ap (λ (v : ℕ). v ⊕ word (m y) (n y) y (n y) ⊕ word (m z) z (n z) (m z))
-      (word-sum w (m w) (n w) (n w) (n x) (n x) (m x) x hw w1 w2 x2 x2 x1)
+    (word-sum w (m w) (n w) (n w) (n x) (n x) (m x) x hw w1 w2 x2 x2 x1)
     ∙ ap (λ (v : ℕ). v ⊕ word (m z) z (n z) (m z))
-        (word-sum (w ⊕ n x) (m w ⊕ n x) (n w ⊕ m x) (n w ⊕ x) (m y) (n y) y (n y)
-          (xor-lt 8 w (n x) hw x2) (xor-lt 8 (m w) (n x) w1 x2) (xor-lt 8 (n w) (m x) w2 x1) y1 y2 hy)
+    (word-sum (w ⊕ n x) (m w ⊕ n x) (n w ⊕ m x) (n w ⊕ x) (m y) (n y) y (n y)
+    (xor-lt 8 w (n x) hw x2) (xor-lt 8 (m w) (n x) w1 x2) (xor-lt 8 (n w) (m x) w2 x1) y1 y2 hy)
     ∙ word-sum (w ⊕ n x ⊕ m y) (m w ⊕ n x ⊕ n y) (n w ⊕ m x ⊕ y) (n w ⊕ x ⊕ n y) (m z) z (n z) (m z)
-        (xor-lt 8 (w ⊕ n x) (m y) (xor-lt 8 w (n x) hw x2) y1) (xor-lt 8 (m w ⊕ n x) (n y) (xor-lt 8 (m w) (n x) w1 x2) y2)
-        (xor-lt 8 (n w ⊕ m x) y (xor-lt 8 (n w) (m x) w2 x1) hy) z1 hz z2
+    (xor-lt 8 (w ⊕ n x) (m y) (xor-lt 8 w (n x) hw x2) y1) (xor-lt 8 (m w ⊕ n x) (n y) (xor-lt 8 (m w) (n x) w1 x2) y2)
+    (xor-lt 8 (n w ⊕ m x) y (xor-lt 8 (n w) (m x) w2 x1) hy) z1 hz z2
     ∙ sym (rw (is-1 w hw, is-1 x hx, is-1 y hy, is-1 z hz) refl)

@@ -52,7 +52,8 @@ block-words l h =
       fa = number-fits (four l 0 h);
       fb = number-fits (four l 4 h);
       fc = number-fits (four l 8 h);
-      fd = number-fits (four l 12 h) }
+      fd = number-fits (four l 12 h);
+    }
 
 -- 16 bytes as words and back
 listed16 : (l : List ℕ) → length l ≡ 16

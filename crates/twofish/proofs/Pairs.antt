@@ -36,6 +36,6 @@ module _ (q0 q1 : ℕ → ℕ) (e o : List ℕ) (i : ℕ) where
   odd p q r z =
       z
       ∙ ap (rotateLeft 32 9)
-          (r ∙ ap₂ (λ (x y : ℕ). (x + 2 * y + 0) % 2 ^ 32) p q
-          ∙ ap (λ (x : ℕ). x % 2 ^ 32) (add-zero (wordA q0 q1 e i + 2 * wordB q0 q1 o i)))
+      (r ∙ ap₂ (λ (x y : ℕ). (x + 2 * y + 0) % 2 ^ 32) p q
+      ∙ ap (λ (x : ℕ). x % 2 ^ 32) (add-zero (wordA q0 q1 e i + 2 * wordB q0 q1 o i)))
       ∙ sym odd-is

@@ -42,12 +42,12 @@ whiten-undo k i s =
 whiten-words : (k : ℕ → ℕ) → ((i : ℕ) → k i < 2 ^ 32) → (i : ℕ) {s : Block} → Words s → Words (whiten k i s)
 unfolding whiten
 whiten-words k hk i {s} w =
-    record
-      { fa = xor-lt 32 (s .a) (k i) (w .fa) (hk i)
-      ; fb = xor-lt 32 (s .b) (k (i + 1)) (w .fb) (hk (i + 1))
-      ; fc = xor-lt 32 (s .c) (k (i + 2)) (w .fc) (hk (i + 2))
-      ; fd = xor-lt 32 (s .d) (k (i + 3)) (w .fd) (hk (i + 3))
-      }
+    record {
+      fa = xor-lt 32 (s .a) (k i) (w .fa) (hk i);
+      fb = xor-lt 32 (s .b) (k (i + 1)) (w .fb) (hk (i + 1));
+      fc = xor-lt 32 (s .c) (k (i + 2)) (w .fc) (hk (i + 2));
+      fd = xor-lt 32 (s .d) (k (i + 3)) (w .fd) (hk (i + 3));
+    }
 
 swap-words : {s : Block} → Words s → Words (swap s)
 swap-words w = record { fa = w .fc; fb = w .fd; fc = w .fa; fd = w .fb }
@@ -66,24 +66,24 @@ module _ (g k : ℕ → ℕ) where
   round-words r {s} w =
       let f = F0 g k r (s .a) (s .b) in
       let f′ = F1 g k r (s .a) (s .b) in
-      record
-        { fa = right-word (s .c ⊕ f) (xor-lt 32 (s .c) f (w .fc) (F0-word r (s .a) (s .b)))
-        ; fb = xor-lt 32 (rotateLeft 32 1 (s .d)) f′ (left-word (s .d) (w .fd)) (F1-word r (s .a) (s .b))
-        ; fc = w .fa
-        ; fd = w .fb
-        }
+      record {
+        fa = right-word (s .c ⊕ f) (xor-lt 32 (s .c) f (w .fc) (F0-word r (s .a) (s .b)));
+        fb = xor-lt 32 (rotateLeft 32 1 (s .d)) f′ (left-word (s .d) (w .fd)) (F1-word r (s .a) (s .b));
+        fc = w .fa;
+        fd = w .fb;
+      }
 
   unround-words : (r : ℕ) {s : Block} → Words s → Words (unround g k r s)
   unfolding unround
   unround-words r {s} w =
       let f = F0 g k r (s .c) (s .d) in
       let f′ = F1 g k r (s .c) (s .d) in
-      record
-        { fa = w .fc
-        ; fb = w .fd
-        ; fc = xor-lt 32 (rotateLeft 32 1 (s .a)) f (left-word (s .a) (w .fa)) (F0-word r (s .c) (s .d))
-        ; fd = right-word (s .b ⊕ f′) (xor-lt 32 (s .b) f′ (w .fb) (F1-word r (s .c) (s .d)))
-        }
+      record {
+        fa = w .fc;
+        fb = w .fd;
+        fc = xor-lt 32 (rotateLeft 32 1 (s .a)) f (left-word (s .a) (w .fa)) (F0-word r (s .c) (s .d));
+        fd = right-word (s .b ⊕ f′) (xor-lt 32 (s .b) f′ (w .fb) (F1-word r (s .c) (s .d)));
+      }
 
   unround-round : (r : ℕ) {s : Block} → Words s → unround g k r (round g k r s) ≡ s
   unfolding round unround
@@ -91,8 +91,8 @@ module _ (g k : ℕ → ℕ) where
       let f = F0 g k r (s .a) (s .b) in
       let f′ = F1 g k r (s .a) (s .b) in
       blocks refl refl
-        (ap (λ (x : ℕ). x ⊕ f) (left-back (s .c ⊕ f) (xor-lt 32 (s .c) f (w .fc) (F0-word r (s .a) (s .b)))) ∙ xor-undo (s .c) f)
-        (ap (rotateRight 32 1) (xor-undo (rotateLeft 32 1 (s .d)) f′) ∙ right-back (s .d) (w .fd))
+      (ap (λ (x : ℕ). x ⊕ f) (left-back (s .c ⊕ f) (xor-lt 32 (s .c) f (w .fc) (F0-word r (s .a) (s .b)))) ∙ xor-undo (s .c) f)
+      (ap (rotateRight 32 1) (xor-undo (rotateLeft 32 1 (s .d)) f′) ∙ right-back (s .d) (w .fd))
 
   round-unround : (r : ℕ) {s : Block} → Words s → round g k r (unround g k r s) ≡ s
   unfolding round unround
@@ -100,9 +100,9 @@ module _ (g k : ℕ → ℕ) where
       let f = F0 g k r (s .c) (s .d) in
       let f′ = F1 g k r (s .c) (s .d) in
       blocks
-        (ap (rotateRight 32 1) (xor-undo (rotateLeft 32 1 (s .a)) f) ∙ right-back (s .a) (w .fa))
-        (ap (λ (x : ℕ). x ⊕ f′) (left-back (s .b ⊕ f′) (xor-lt 32 (s .b) f′ (w .fb) (F1-word r (s .c) (s .d)))) ∙ xor-undo (s .b) f′)
-        refl refl
+      (ap (rotateRight 32 1) (xor-undo (rotateLeft 32 1 (s .a)) f) ∙ right-back (s .a) (w .fa))
+      (ap (λ (x : ℕ). x ⊕ f′) (left-back (s .b ⊕ f′) (xor-lt 32 (s .b) f′ (w .fb) (F1-word r (s .c) (s .d)))) ∙ xor-undo (s .b) f′)
+      refl refl
 
   rounds-words : (n : ℕ) {s : Block} → Words s → Words (rounds g k n s)
   unfolding rounds

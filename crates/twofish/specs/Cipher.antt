@@ -23,22 +23,22 @@ module _ (g k : ℕ → ℕ) where
   -- round r: the third word turns after the exclusive or, the fourth before it and the other way
   unfoldable pub round : ℕ → Block → Block
   round r s =
-      record
-        { a = rotateRight 32 1 (s .c ⊕ F0 r (s .a) (s .b))
-        ; b = rotateLeft 32 1 (s .d) ⊕ F1 r (s .a) (s .b)
-        ; c = s .a
-        ; d = s .b
-        }
+      record {
+        a = rotateRight 32 1 (s .c ⊕ F0 r (s .a) (s .b));
+        b = rotateLeft 32 1 (s .d) ⊕ F1 r (s .a) (s .b);
+        c = s .a;
+        d = s .b;
+      }
 
   -- and back
   unfoldable pub unround : ℕ → Block → Block
   unround r s =
-      record
-        { a = s .c
-        ; b = s .d
-        ; c = rotateLeft 32 1 (s .a) ⊕ F0 r (s .c) (s .d)
-        ; d = rotateRight 32 1 (s .b ⊕ F1 r (s .c) (s .d))
-        }
+      record {
+        a = s .c;
+        b = s .d;
+        c = rotateLeft 32 1 (s .a) ⊕ F0 r (s .c) (s .d);
+        d = rotateRight 32 1 (s .b ⊕ F1 r (s .c) (s .d));
+      }
 
   -- rounds 0 to n - 1, and back
   unfoldable pub rounds : ℕ → Block → Block

@@ -1,9 +1,13 @@
 // Blocks in bytes, and the cipher on them.
 use super::Block;
-use super::cipher::{decrypt, encrypt};
-use super::key::{box_key, subkeys};
-use super::tables::{q0, q1};
-use words::numbers::{byte, low};
+use super::cipher::decrypt;
+use super::cipher::encrypt;
+use super::key::box_key;
+use super::key::subkeys;
+use super::tables::q0;
+use super::tables::q1;
+use words::numbers::byte;
+use words::numbers::low;
 ghost use mathlib.Core.Path.{_≡_};
 ghost use Prim.Native.Nat.{_<_};
 ghost use Rattle.twofish.specs.Table.{at as atOf};
@@ -39,9 +43,22 @@ pub fn bytes(x: Block) -> [u8; 16]
     ensures { λ r. ⌜ r ≡ bytesOf x ⌝ }
 {
     [
-        byte(x.a, 0), byte(x.a, 1), byte(x.a, 2), byte(x.a, 3), byte(x.b, 0), byte(x.b, 1),
-        byte(x.b, 2), byte(x.b, 3), byte(x.c, 0), byte(x.c, 1), byte(x.c, 2), byte(x.c, 3),
-        byte(x.d, 0), byte(x.d, 1), byte(x.d, 2), byte(x.d, 3),
+        byte(x.a, 0),
+        byte(x.a, 1),
+        byte(x.a, 2),
+        byte(x.a, 3),
+        byte(x.b, 0),
+        byte(x.b, 1),
+        byte(x.b, 2),
+        byte(x.b, 3),
+        byte(x.c, 0),
+        byte(x.c, 1),
+        byte(x.c, 2),
+        byte(x.c, 3),
+        byte(x.d, 0),
+        byte(x.d, 1),
+        byte(x.d, 2),
+        byte(x.d, 3),
     ]
 }
 

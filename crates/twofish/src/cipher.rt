@@ -1,7 +1,10 @@
 // The cipher on four words. t0 and t1 are the tables of q0 and q1, s is the vector S, and k has the subkeys.
 use super::Block;
-use super::key::{h, sum, sum_twice};
-use words::rotation::{left, right};
+use super::key::h;
+use super::key::sum;
+use super::key::sum_twice;
+use words::rotation::left;
+use words::rotation::right;
 ghost use mathlib.Core.Path.{_≡_};
 ghost use Prim.Native.Nat.{_<_};
 ghost use Rattle.twofish.specs.Table.{at};

@@ -54,7 +54,11 @@ fn twice(a: u8) -> u8
     ensures { λ r. ⌜ r ≡ twiceOf 0x14D a ⌝ }
 {
     let x = 2 * (a as u32);
-    if x < 256 { x as u8 } else { ((x ^ 0x14D) % 256) as u8 }
+    if x < 256 {
+        x as u8
+    } else {
+        ((x ^ 0x14D) % 256) as u8
+    }
 }
 
 // a, where b is odd.

@@ -1,5 +1,9 @@
 // The key schedule. t0 and t1 are the tables of q0 and q1; a list l of four words is given by its 16 bytes.
-use super::field::{col0, col1, col2, col3, times};
+use super::field::col0;
+use super::field::col1;
+use super::field::col2;
+use super::field::col3;
+use super::field::times;
 use words::numbers::byte;
 use words::rotation::left;
 ghost use mathlib.Core.Path.{_≡_};
@@ -18,25 +22,37 @@ fn sub(t: &[u8; 256], x: u8) -> u8
 fn y0(t0: &[u8; 256], t1: &[u8; 256], l: &[u8; 16], x: u8) -> u8
     ensures { λ r. ⌜ r ≡ y0Of (at (now (t0 .entry))) (at (now (t1 .entry))) (now (l .entry)) x ⌝ }
 {
-    sub(t1, sub(t0, sub(t0, sub(t1, sub(t1, x) ^ l[12]) ^ l[8]) ^ l[4]) ^ l[0])
+    sub(
+        t1,
+        sub(t0, sub(t0, sub(t1, sub(t1, x) ^ l[12]) ^ l[8]) ^ l[4]) ^ l[0],
+    )
 }
 
 fn y1(t0: &[u8; 256], t1: &[u8; 256], l: &[u8; 16], x: u8) -> u8
     ensures { λ r. ⌜ r ≡ y1Of (at (now (t0 .entry))) (at (now (t1 .entry))) (now (l .entry)) x ⌝ }
 {
-    sub(t0, sub(t0, sub(t1, sub(t1, sub(t0, x) ^ l[13]) ^ l[9]) ^ l[5]) ^ l[1])
+    sub(
+        t0,
+        sub(t0, sub(t1, sub(t1, sub(t0, x) ^ l[13]) ^ l[9]) ^ l[5]) ^ l[1],
+    )
 }
 
 fn y2(t0: &[u8; 256], t1: &[u8; 256], l: &[u8; 16], x: u8) -> u8
     ensures { λ r. ⌜ r ≡ y2Of (at (now (t0 .entry))) (at (now (t1 .entry))) (now (l .entry)) x ⌝ }
 {
-    sub(t1, sub(t1, sub(t0, sub(t0, sub(t0, x) ^ l[14]) ^ l[10]) ^ l[6]) ^ l[2])
+    sub(
+        t1,
+        sub(t1, sub(t0, sub(t0, sub(t0, x) ^ l[14]) ^ l[10]) ^ l[6]) ^ l[2],
+    )
 }
 
 fn y3(t0: &[u8; 256], t1: &[u8; 256], l: &[u8; 16], x: u8) -> u8
     ensures { λ r. ⌜ r ≡ y3Of (at (now (t0 .entry))) (at (now (t1 .entry))) (now (l .entry)) x ⌝ }
 {
-    sub(t0, sub(t1, sub(t1, sub(t0, sub(t1, x) ^ l[15]) ^ l[11]) ^ l[7]) ^ l[3])
+    sub(
+        t0,
+        sub(t1, sub(t1, sub(t0, sub(t1, x) ^ l[15]) ^ l[11]) ^ l[7]) ^ l[3],
+    )
 }
 
 pub fn h(t0: &[u8; 256], t1: &[u8; 256], l: &[u8; 16], x: u32) -> u32
@@ -86,7 +102,21 @@ pub fn box_key(m: &[u8; 32]) -> [u8; 16]
     let c = rs_word(m, 8);
     let d = rs_word(m, 0);
     [
-        a[0], a[1], a[2], a[3], b[0], b[1], b[2], b[3], c[0], c[1], c[2], c[3], d[0], d[1], d[2],
+        a[0],
+        a[1],
+        a[2],
+        a[3],
+        b[0],
+        b[1],
+        b[2],
+        b[3],
+        c[0],
+        c[1],
+        c[2],
+        c[3],
+        d[0],
+        d[1],
+        d[2],
         d[3],
     ]
 }
@@ -95,8 +125,22 @@ fn evens(m: &[u8; 32]) -> [u8; 16]
     ensures { λ r. ⌜ r ≡ evensOf (now (m .entry)) ⌝ }
 {
     [
-        m[0], m[1], m[2], m[3], m[8], m[9], m[10], m[11], m[16], m[17], m[18], m[19], m[24], m[25],
-        m[26], m[27],
+        m[0],
+        m[1],
+        m[2],
+        m[3],
+        m[8],
+        m[9],
+        m[10],
+        m[11],
+        m[16],
+        m[17],
+        m[18],
+        m[19],
+        m[24],
+        m[25],
+        m[26],
+        m[27],
     ]
 }
 
@@ -104,8 +148,22 @@ fn odds(m: &[u8; 32]) -> [u8; 16]
     ensures { λ r. ⌜ r ≡ oddsOf (now (m .entry)) ⌝ }
 {
     [
-        m[4], m[5], m[6], m[7], m[12], m[13], m[14], m[15], m[20], m[21], m[22], m[23], m[28], m[29],
-        m[30], m[31],
+        m[4],
+        m[5],
+        m[6],
+        m[7],
+        m[12],
+        m[13],
+        m[14],
+        m[15],
+        m[20],
+        m[21],
+        m[22],
+        m[23],
+        m[28],
+        m[29],
+        m[30],
+        m[31],
     ]
 }
 

@@ -4,15 +4,11 @@ use borrow.Author.Tests.{eq-eqb, ne-eqb}
 use borrow.Author.Needs.{needs}
 use Rattle.twofish.proofs.field.half.Statement.{statement}
 use Rattle.twofish.proofs.field.half.Tie as tie
-use Rattle.twofish.proofs.field.half.Reads as reads
-use Rattle.twofish.proofs.field.half.Lts as lts
 
--- src/field.rt:8:1
 returns : tie.Need-returns
 unfolding half
 returns c = simp (eq-eqb _ _ (c .if1 .taken))
 
--- src/field.rt:8:1
 returns-2 : tie.Need-returns-2
 unfolding half
 returns-2 c = simp (ne-eqb _ _ (c .if1 .left))

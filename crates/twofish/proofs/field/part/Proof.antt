@@ -6,16 +6,12 @@ use native.Mathlib.Omega.{arith}
 use borrow.Author.Needs.{needs}
 use Rattle.twofish.proofs.field.part.Statement.{statement}
 use Rattle.twofish.proofs.field.part.Tie as tie
-use Rattle.twofish.proofs.field.part.Reads as reads
-use Rattle.twofish.proofs.field.part.Lts as lts
 
--- src/field.rt:61:1
 returns : tie.Need-returns
 returns c = sym (ap (λ (x : ℕ). x * c .before .args .a) (c .if1 .taken) ∙ zero-mul (c .before .args .a))
 
--- src/field.rt:61:1
 returns-2 : tie.Need-returns-2
-returns-2 c = 
+returns-2 c =
     let e : c .before .args .b % 2 ≡ 1 = omega arith in
     sym (ap (λ (x : ℕ). x * c .before .args .a) e ∙ one-mul (c .before .args .a))
 

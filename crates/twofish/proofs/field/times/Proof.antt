@@ -8,10 +8,6 @@ use native.Mathlib.Omega.{arith}
 use borrow.Author.Needs.{needs}
 use Rattle.twofish.proofs.field.times.Statement.{statement}
 use Rattle.twofish.proofs.field.times.Tie as tie
-use Rattle.twofish.proofs.field.times.Reads as reads
-use Rattle.twofish.proofs.field.times.Lts as lts
-use Rattle.twofish.proofs.field.part.Reads as part-reads
-use Rattle.twofish.proofs.field.twice.Reads as twice-reads
 
 -- one bit of the sum
 step : (p n x y r : ℕ) → 0 < n → r ⊕ (y % 2 * x) ⊕ times p (n - 1) (twice p x) (y / 2) ≡ r ⊕ times p n x y
@@ -30,36 +26,17 @@ Inv-loop a b r₀ x₀ y₀ n₀ r x y n = r ⊕ times 0x14D n x y ≡ times 0x1
 abbrev μ-loop : tie.MeasureT-loop
 μ-loop a b r₀ x₀ y₀ n₀ r x y n = n
 
--- src/field.rt:75:5
 loop-holds : tie.Need-loop-holds Inv-loop μ-loop
 loop-holds c = refl
 
--- src/field.rt:76:17
-part-requires : tie.Need-part-requires Inv-loop μ-loop
-part-requires c κs = search needs
-
--- src/field.rt:77:9
-twice-requires : tie.Need-twice-requires Inv-loop μ-loop
-twice-requires c κs = search needs
-
--- src/field.rt:79:13
-sub-n : tie.Need-sub-n Inv-loop μ-loop
-sub-n c = search needs
-
--- src/field.rt:75:5
-loop-less : tie.Need-loop-less Inv-loop μ-loop
-loop-less c = search needs
-
--- src/field.rt:75:5
 loop-again : tie.Need-loop-again Inv-loop μ-loop
-loop-again c = 
+loop-again c =
     let l = c .before .before .before .loop in
     cc (step 0x14D (l .n) (l .x) (l .y) (l .r) (c .before .before .loop-test .taken))
 
--- src/field.rt:68:1
 returns : tie.Need-returns Inv-loop μ-loop
 unfolding gf
-returns c = 
+returns c =
     let l = c .before .loop in
     let e : l .n ≡ 0 = omega arith in
     cc (none 0x14D (l .n) (l .x) (l .y) (l .r) e)
@@ -71,9 +48,9 @@ times-spec =
     Inv-loop
     μ-loop
     loop-holds
-    part-requires
-    twice-requires
-    sub-n
-    loop-less
+    (λ c κs. search needs)
+    (λ c κs. search needs)
+    (λ c. search needs)
+    (λ c. search needs)
     loop-again
     returns)

@@ -9,35 +9,19 @@ use borrow.Author.Tests.{lt-ltb, le-ltb}
 use borrow.Author.Needs.{needs}
 use Rattle.twofish.proofs.field.twice.Statement.{statement}
 use Rattle.twofish.proofs.field.twice.Tie as tie
-use Rattle.twofish.proofs.field.twice.Reads as reads
-use Rattle.twofish.proofs.field.twice.Lts as lts
 
--- src/field.rt:56:13
-mul-x : tie.Need-mul-x
-mul-x c = search needs
-
--- src/field.rt:57:18
-cast-result : tie.Need-cast-result
-cast-result c = search needs
-
--- src/field.rt:57:35
-cast-result-2 : tie.Need-cast-result-2
-cast-result-2 c = search needs
-
--- src/field.rt:53:1
 returns : tie.Need-returns
 unfolding twice
 returns c = simp (lt-ltb _ _ (c .if1 .taken))
 
--- src/field.rt:53:1
 byte : (a : ℕ) → a < 256 → cond (ltb (2 * a) 256) (2 * a) ((2 * a ⊕ 0x14D) % 256) ≡ twice 0x14D a
 unfolding twice
 byte = agree (λ a. cond (ltb (2 * a) 256) (2 * a) ((2 * a ⊕ 0x14D) % 256)) (twice 0x14D) 256 tt
 
 returns-2 : tie.Need-returns-2
-returns-2 c = 
+returns-2 c =
     let a = c .before .args .a in
     sym (rw (← byte a (c .before .fits .a .fits), le-ltb _ _ (c .if1 .left)))
 
 pub twice-spec : {M : Type 1} → statement M
-twice-spec = tie.close (tie.spec mul-x cast-result cast-result-2 returns returns-2)
+twice-spec = tie.close (tie.spec (λ c. search needs) (λ c. search needs) (λ c. search needs) returns returns-2)

@@ -6,10 +6,7 @@ use mathlib.Core.Path.{refl}
 use borrow.Author.Needs.{needs}
 use Rattle.twofish.proofs.tables.q0.Statement.{statement}
 use Rattle.twofish.proofs.tables.q0.Tie as tie
-use Rattle.twofish.proofs.tables.q0.Reads as reads
-use Rattle.twofish.proofs.tables.q0.Lts as lts
 
--- src/tables.rt:43:1
 returns : tie.Need-returns
 unfolding rule0 table0 rotateRight
 returns c = follows rule0 _ refl tt

@@ -6,10 +6,7 @@ use mathlib.Core.Path.{refl}
 use borrow.Author.Needs.{needs}
 use Rattle.twofish.proofs.tables.q1.Statement.{statement}
 use Rattle.twofish.proofs.tables.q1.Tie as tie
-use Rattle.twofish.proofs.tables.q1.Reads as reads
-use Rattle.twofish.proofs.tables.q1.Lts as lts
 
--- src/tables.rt:49:1
 returns : tie.Need-returns
 unfolding rule1 table1 rotateRight
 returns c = follows rule1 _ refl tt
