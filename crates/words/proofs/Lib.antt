@@ -1,0 +1,5 @@
+pub mod ByteLaws
+pub mod NumberLaws
+pub mod RotationLaws
+pub mod XorLaws
+pub mod SliceLaws

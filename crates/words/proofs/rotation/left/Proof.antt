@@ -1,24 +1,13 @@
+-- `words::rotation::left` meets its contract, by the law of a rotation by shifts.
 use borrow.Author.Needs.{needs}
+use Prim.Native.Nat.{_%_}
+use native.Mathlib.Omega.{arith}
+use Rattle.words.proofs.RotationLaws.{left-shifts}
 use Rattle.words.proofs.rotation.left.Statement.{statement}
 use Rattle.words.proofs.rotation.left.Tie as tie
-use Rattle.words.proofs.rotation.left.Reads as reads
-use Rattle.words.proofs.rotation.left.Lts as lts
 
--- src/rotation.rt:17:13
-sub-result : tie.Need-sub-result
-sub-result c = search needs
-
--- src/rotation.rt:17:6
-shr-result : tie.Need-shr-result
-shr-result c = search needs
-
--- src/rotation.rt:17:31
-shl-result : tie.Need-shl-result
-shl-result c = search needs
-
--- src/rotation.rt:13:1
 returns : tie.Need-returns
-returns c = search needs
+returns c = left-shifts 32 (c .args .n % 32) (c .args .x) (omega arith) (c .fits .x .fits)
 
 pub left-spec : {M : Type 1} → statement M
-left-spec = tie.close (tie.spec sub-result shr-result shl-result returns)
+left-spec = tie.close (tie.spec (λ c. search needs) (λ c. search needs) (λ c. search needs) returns)

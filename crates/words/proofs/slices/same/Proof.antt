@@ -1,50 +1,40 @@
+-- `words::slices::same` meets its contract. The invariant of its loop: what is left decides.
+use mathlib.Core.Path.{_≡_, refl, sym, _∙_}
+use Prim.Native.Nat.{_≤_, _-_, _+_}
+use native.Mathlib.Omega.{arith}
+use lib.ListN.{length, drop}
 use borrow.Author.Needs.{needs}
+use Rattle.words.specs.Slices.{same}
+use Rattle.words.proofs.SliceLaws.{length-differs, same-next, same-stop, same-end}
 use Rattle.words.proofs.slices.same.Statement.{statement}
 use Rattle.words.proofs.slices.same.Tie as tie
-use Rattle.words.proofs.slices.same.Reads as reads
-use Rattle.words.proofs.slices.same.Lts as lts
 
 abbrev Inv-loop : tie.InvT-loop
-Inv-loop a b i₀ i = ?
+Inv-loop a b i₀ i = (i ≤ length a) × (length a ≡ length b) × (same a b ≡ same (drop i a) (drop i b))
 
 abbrev μ-loop : tie.MeasureT-loop
-μ-loop a b i₀ i = ?
+μ-loop a b i₀ i = length a - i
 
--- src/slices.rt:31:9
 returns : tie.Need-returns Inv-loop μ-loop
-returns c = search needs
+returns c = length-differs _ _ (c .if1 .taken)
 
--- src/slices.rt:34:5
 loop-holds : tie.Need-loop-holds Inv-loop μ-loop
-loop-holds c = search needs
+loop-holds c = (search needs, search needs, refl)
 
--- src/slices.rt:35:12
-shared-slice-read-if2 : tie.Need-shared-slice-read-if2 Inv-loop μ-loop
-shared-slice-read-if2 c = search needs
-
--- src/slices.rt:35:20
-shared-slice-read-if2-2 : tie.Need-shared-slice-read-if2-2 Inv-loop μ-loop
-shared-slice-read-if2-2 c = search needs
-
--- src/slices.rt:36:13
 returns-2 : tie.Need-returns-2 Inv-loop μ-loop
-returns-2 c = search needs
+returns-2 c =
+    let v = c .before .before .before .before .loop .inv in
+    sym (v .2 ∙ same-stop _ _ (c .before .before .before .before .loop .i) (omega arith) (v .1) (c .if2 .taken))
 
--- src/slices.rt:38:9
-add-i : tie.Need-add-i Inv-loop μ-loop
-add-i c = search needs
-
--- src/slices.rt:34:5
-loop-less : tie.Need-loop-less Inv-loop μ-loop
-loop-less c = search needs
-
--- src/slices.rt:34:5
 loop-again : tie.Need-loop-again Inv-loop μ-loop
-loop-again c = search needs
+loop-again c =
+    let v = c .before .before .before .before .loop .inv in
+    (search needs, v .1, v .2 ∙ same-next _ _ (c .before .before .before .before .loop .i) (omega arith) (v .1) (c .if2 .left))
 
--- src/slices.rt:27:1
 returns-3 : tie.Need-returns-3 Inv-loop μ-loop
-returns-3 c = search needs
+returns-3 c =
+    let v = c .before .loop .inv in
+    sym (v .2 ∙ same-end _ _ (c .before .loop .i) (omega arith) (v .1))
 
 pub same-spec : {M : Type 1} → statement M
 same-spec =
@@ -54,10 +44,10 @@ same-spec =
     μ-loop
     returns
     loop-holds
-    shared-slice-read-if2
-    shared-slice-read-if2-2
+    (λ c. search needs)
+    (λ c. search needs)
     returns-2
-    add-i
-    loop-less
+    (λ c. search needs)
+    (λ c. search needs)
     loop-again
     returns-3)

@@ -1,0 +1,73 @@
+-- What the loops over slices hold: a copy as far as it has come, and a comparison as far as it has come.
+use mathlib.Core.Path.{_≡_, refl, sym, ap, ap₂, _∙_}
+use mathlib.Core.Bool.{Bool, true, false, cond}
+use mathlib.Core.List.{List, [], _∷_, _++_}
+use Prim.Native.Nat.{ℕ, zero, suc, _+_, _<_, _≤_}
+use native.Mathlib.Omega.{arith}
+use native.Mathlib.Nat.{zero-add}
+use native.Mathlib.Numerals.{add-one}
+use borrow.Author.Tests.{eq-eqb, ne-eqb, eqb-true}
+use lib.Dec.{eqb}
+use lib.ListN.{length, getD, take, drop, drop-of-length-le}
+use lib.Seq.{paste, take-all, drop-cons, drop-length}
+use Rattle.words.specs.Slices.{copied, same}
+
+-- all of s is copied, or d is full
+pub copied-all : (d s : List ℕ) (i : ℕ) → length s ≤ i → i ≤ length s → i ≤ length d → paste d 0 s i ≡ copied d s
+copied-all d s i h k l =
+    let e : i ≡ length s = omega arith in
+    ap₂ (λ (k n : ℕ). take k s ++ drop n d) e (zero-add i ∙ e)
+    ∙ ap (λ (l : List ℕ). l ++ drop (length s) d) (take-all (length s) s (omega arith) ∙ sym (take-all (length d) s (omega arith)))
+
+pub copied-full : (d s : List ℕ) (i : ℕ) → length d ≤ i → i ≤ length s → i ≤ length d → paste d 0 s i ≡ copied d s
+copied-full d s i h k l =
+    let e : i ≡ length d = omega arith in
+    ap₂ (λ (k n : ℕ). take k s ++ drop n d) e (zero-add i ∙ e)
+    ∙ ap (λ (l : List ℕ). take (length d) s ++ l) (drop-length d ∙ sym (drop-of-length-le d {i = length s} (omega arith)))
+
+pub same-refl : (s : List ℕ) → same s s ≡ true
+unfolding same
+same-refl [] = refl
+same-refl (a ∷ s) = rw (eq-eqb a a refl) (same-refl s)
+
+both : (e f : Bool) → cond e f false ≡ true → (e ≡ true) × (f ≡ true)
+both true f h = (refl, h)
+both false f h = absurd (let z : _≡_ {A = ℕ} 0 1 = cc in omega arith)
+
+pub same-true : (s t : List ℕ) → same s t ≡ true → s ≡ t
+unfolding same
+same-true [] [] h = refl
+same-true [] (b ∷ t) h = absurd (let z : _≡_ {A = ℕ} 0 1 = cc in omega arith)
+same-true (a ∷ s) [] h = absurd (let z : _≡_ {A = ℕ} 0 1 = cc in omega arith)
+same-true (a ∷ s) (b ∷ t) h =
+    let g = both (eqb a b) (same s t) h in
+    ap₂ _∷_ (eqb-true a b (g .0)) (same-true s t (g .1))
+
+pub same-false : (s t : List ℕ) → same s t ≡ false → s ≡ t → ⊥
+same-false s t h e =
+    let z : _≡_ {A = Bool} true false = sym (same-refl s) ∙ ap (same s) e ∙ h in
+    let o : _≡_ {A = ℕ} 0 1 = cc in omega arith
+
+pub length-differs : (s t : List ℕ) → (length s ≡ length t → ⊥) → false ≡ same s t
+length-differs s t h = go (same s t) refl
+  where
+    go : (b : Bool) → same s t ≡ b → false ≡ b
+    go true e = absurd (h (ap length (same-true s t e)))
+    go false e = refl
+
+-- what is left decides, once equal elements are passed
+pub same-next : (s t : List ℕ) (i : ℕ) → i < length s → length s ≡ length t → getD s i 0 ≡ getD t i 0
+    → same (drop i s) (drop i t) ≡ same (drop (i + 1) s) (drop (i + 1) t)
+unfolding same
+same-next s t i h l e =
+    rw (add-one, drop-cons s i 0 h, drop-cons t i 0 (omega arith), eq-eqb (getD s i 0) (getD t i 0) e)
+
+pub same-stop : (s t : List ℕ) (i : ℕ) → i < length s → length s ≡ length t → (getD s i 0 ≡ getD t i 0 → ⊥)
+    → same (drop i s) (drop i t) ≡ false
+unfolding same
+same-stop s t i h l e =
+    rw (drop-cons s i 0 h, drop-cons t i 0 (omega arith), ne-eqb (getD s i 0) (getD t i 0) e)
+
+pub same-end : (s t : List ℕ) (i : ℕ) → length s ≤ i → length s ≡ length t → same (drop i s) (drop i t) ≡ true
+unfolding same
+same-end s t i h l = rw (drop-of-length-le s {i = i} h, drop-of-length-le t {i = i} (omega arith))
