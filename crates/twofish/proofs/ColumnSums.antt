@@ -1,15 +1,15 @@
 -- The product of the MDS matrix and four bytes is the sum of its columns, each times a byte: the sums of four bytes go byte by byte,
 -- and the multiples by 1, 5B and EF are computed at all 256 bytes.
 use mathlib.Core.Path.{_≡_, refl, sym, ap, ap₂, _∙_}
-use mathlib.Core.List.{List, [], _∷_}
-use Prim.Native.Nat.{ℕ, zero, suc, _+_, _*_, _/_, _%_, _^_, _<_}
+use mathlib.Core.List.{[], _∷_}
+use Prim.Native.Nat.{ℕ, _+_, _*_, _<_}
 use native.Mathlib.Omega.{arith}
-use lib.Bits.{bitXor, xor-block, xor-lt}
-use lib.Dec.{T, ltb, ltb→lt}
+use lib.Bits.{xor-block, xor-lt}
+use lib.Dec.{ltb, ltb→lt}
 use Rattle.words.specs.Numbers.{numberLow}
 use Rattle.words.proofs.NumberLaws.{low-word}
-use Rattle.twofish.specs.Field.{_⊕_, gf, times, twice, product, dot}
-use Rattle.twofish.specs.Key.{MDS, mds}
+use Rattle.twofish.specs.Field.{_⊕_, gf, times, twice}
+use Rattle.twofish.specs.Key.{mds}
 use Rattle.twofish.specs.Columns.{half, col0, col1, col2, col3}
 use Rattle.twofish.proofs.Every.{every, agree}
 

@@ -3,20 +3,19 @@
 use mathlib.Core.Path.{_≡_, refl, sym, ap, ap₂, _∙_}
 use mathlib.Core.Bool.{Bool, true, false, cond}
 use mathlib.Core.List.{List, [], _∷_, _++_}
-use Prim.Native.Nat.{ℕ, zero, suc, _+_, _*_, _/_, _%_, _^_, _<_, _≤_}
-use native.Mathlib.Nat.{mod-lt, mod-eq-of-lt}
+use Prim.Native.Nat.{ℕ, zero, suc, _+_, _*_, _/_, _%_, _^_, _<_}
+use native.Mathlib.Nat.{mod-eq-of-lt}
 use native.Mathlib.Omega.{arith}
 use lib.Dec.{eqb, lit<}
 use lib.ListN.{length}
-use Rattle.words.specs.Numbers.{numberLow, bytesLow, byteOf, Bytes, none, more, Sized}
-use Rattle.words.specs.Rotation.{rotateLeft}
+use Rattle.words.specs.Numbers.{bytesLow, byteOf, Bytes, none, more, Sized}
 use Rattle.words.proofs.ByteLaws.{byte-at, sized-append}
 use Rattle.words.proofs.NumberLaws.{number-bytes, bytes-number, number-fits, bytes-sized, four-low}
 use Rattle.words.proofs.RotationLaws.{left-fits}
 use Rattle.twofish.specs.Table.{at, from}
 use Rattle.twofish.specs.Q.{q0, q1}
 use Rattle.twofish.specs.Key.{evens, odds, wordA, wordB, subkey, subkeys, g}
-use Rattle.twofish.specs.Twofish.{wordAt, blockOf, bytesOf, encryptWords, decryptWords, encryptBlock, decryptBlock}
+use Rattle.twofish.specs.Twofish.{blockOf, bytesOf, encryptWords, decryptWords, encryptBlock, decryptBlock}
 use Rattle.twofish.specs.declared.Block.{Block}
 use Rattle.twofish.proofs.Listed.{is-table}
 use Rattle.twofish.proofs.Rounds.{Words, blocks, decrypt-encrypt, encrypt-decrypt, encrypt-words, decrypt-words}

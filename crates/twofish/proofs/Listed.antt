@@ -1,6 +1,6 @@
 -- A list with f at each of its places is the table of f, and a loop that stores f place by place makes it: by recursion on the length, and place by place.
 use mathlib.Core.Path.{_≡_, refl, sym, ap, _∙_, subst}
-use mathlib.Core.List.{List, [], _∷_}
+use mathlib.Core.List.{List}
 use mathlib.Core.Logic.{⊎-elim}
 use Prim.Native.Nat.{ℕ, zero, suc, _+_, _<_}
 use native.Mathlib.Nat.{add-zero, add-suc, suc-add, zero-add, eq-or-lt-of-le, le-of-suc-le-suc, not-suc-le-zero, lt-irrefl}

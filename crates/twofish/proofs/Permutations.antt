@@ -1,10 +1,9 @@
 -- Each full table follows its rule from the four tables of 4 bits: the code's table by one computed test, then every entry by the table's place.
-use mathlib.Core.Path.{_≡_, sym, _∙_}
+use mathlib.Core.Path.{_≡_}
 use mathlib.Core.List.{List}
 use Prim.Native.Nat.{ℕ, _<_}
 use lib.Dec.{T, eqb}
 use lib.ListN.{length}
-use Rattle.words.specs.Rotation.{rotateRight}
 use Rattle.twofish.specs.Table.{at, table}
 use Rattle.twofish.specs.Q.{q0, q1, rule0, rule1, table0, table1}
 use Rattle.twofish.proofs.Every.{all, agree}

@@ -1,7 +1,7 @@
 -- Decryption undoes encryption on four words, and encryption decryption, whatever g and the subkeys are: each round undoes itself, since its
 -- exclusive ors and its rotations do, and so do the rounds by recursion on their number.
-use mathlib.Core.Path.{_≡_, refl, sym, ap, _∙_}
-use Prim.Native.Nat.{ℕ, zero, suc, _+_, _*_, _/_, _%_, _^_, _<_}
+use mathlib.Core.Path.{_≡_, refl, ap, _∙_}
+use Prim.Native.Nat.{ℕ, zero, suc, _+_, _^_, _<_}
 use native.Mathlib.Omega.{arith}
 use lib.Bits.{xor-lt}
 use Rattle.words.specs.Rotation.{rotateLeft, rotateRight}

@@ -3,10 +3,9 @@ use Rattle.twofish.specs.Cipher.{unround, unrounds, decrypt}
 use Rattle.twofish.specs.declared.Block.{Block}
 use Rattle.twofish.specs.Table.{at}
 use Rattle.twofish.specs.Key.{h}
-use mathlib.Core.Path.{_≡_, refl, sym, ap, ap₂, _∙_}
-use Prim.Native.Nat.{ℕ, suc, _+_, _-_, _*_, _/_, _%_, _^_, _≤_, _<_}
+use mathlib.Core.Path.{_≡_, ap}
+use Prim.Native.Nat.{ℕ, suc, _-_, _≤_, _<_}
 use native.Mathlib.Omega.{arith}
-use native.Mathlib.Numerals.{add-one}
 use borrow.Author.Needs.{needs}
 use Rattle.twofish.proofs.cipher.decrypt.Statement.{statement}
 use Rattle.twofish.proofs.cipher.decrypt.Tie as tie

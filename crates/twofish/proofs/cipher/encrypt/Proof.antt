@@ -1,9 +1,9 @@
 -- `encrypt`: after i turns the loop holds the definition's first i rounds.
-use Rattle.twofish.specs.Cipher.{round, rounds, encrypt}
+use Rattle.twofish.specs.Cipher.{rounds, encrypt}
 use Rattle.twofish.specs.Table.{at}
 use Rattle.twofish.specs.Key.{h}
-use mathlib.Core.Path.{_≡_, refl, sym, ap, ap₂, _∙_}
-use Prim.Native.Nat.{ℕ, suc, _+_, _-_, _*_, _/_, _%_, _^_, _≤_, _<_}
+use mathlib.Core.Path.{_≡_, refl, ap}
+use Prim.Native.Nat.{ℕ, _-_, _≤_}
 use native.Mathlib.Omega.{arith}
 use native.Mathlib.Numerals.{add-one}
 use borrow.Author.Needs.{needs}
@@ -18,7 +18,7 @@ abbrev μ-loop : tie.MeasureT-loop
 
 loop-holds : tie.Need-loop-holds Inv-loop μ-loop
 unfolding rounds
-loop-holds c = search needs
+loop-holds c = (search needs, refl)
 
 loop-again : tie.Need-loop-again Inv-loop μ-loop
 unfolding rounds
@@ -43,7 +43,7 @@ encrypt-spec =
     Inv-loop
     μ-loop
     (λ c κs. search needs)
-    (λ c. search needs)
+    loop-holds
     (λ c κs. search needs)
     (λ c. search needs)
     (λ c. search needs)

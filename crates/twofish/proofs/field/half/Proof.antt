@@ -1,7 +1,6 @@
 -- `half`: an even byte and an odd one, as the definition has them.
 use Rattle.twofish.specs.Columns.{half}
 use borrow.Author.Tests.{eq-eqb, ne-eqb}
-use borrow.Author.Needs.{needs}
 use Rattle.twofish.proofs.field.half.Statement.{statement}
 use Rattle.twofish.proofs.field.half.Tie as tie
 

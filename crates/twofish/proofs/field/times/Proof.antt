@@ -2,8 +2,8 @@
 use Rattle.twofish.specs.Field.{_⊕_, gf, times, twice}
 use Rattle.words.proofs.XorLaws.{xor-assoc}
 use lib.Bits.{xor-zero-r}
-use mathlib.Core.Path.{_≡_, refl, sym, ap, ap₂, _∙_}
-use Prim.Native.Nat.{ℕ, suc, _+_, _-_, _*_, _/_, _%_, _^_, _≤_, _<_}
+use mathlib.Core.Path.{_≡_, refl, ap, _∙_}
+use Prim.Native.Nat.{ℕ, suc, _-_, _*_, _/_, _%_, _<_}
 use native.Mathlib.Omega.{arith}
 use borrow.Author.Needs.{needs}
 use Rattle.twofish.proofs.field.times.Statement.{statement}

@@ -3,9 +3,9 @@ use Rattle.twofish.specs.Table.{at, table}
 use Rattle.twofish.specs.Key.{subkey, subkeys}
 use Rattle.twofish.proofs.Listed.{more, is-table}
 use Rattle.twofish.proofs.Pairs.{even, odd}
-use mathlib.Core.Path.{_≡_, refl, sym, ap, ap₂, _∙_}
+use mathlib.Core.Path.{_≡_, refl, ap₂, _∙_}
 use mathlib.Core.List.{List}
-use Prim.Native.Nat.{ℕ, suc, _+_, _-_, _*_, _≤_, _<_}
+use Prim.Native.Nat.{ℕ, _+_, _-_, _*_, _≤_, _<_}
 use native.Mathlib.Nat.{not-suc-le-zero}
 use native.Mathlib.Omega.{arith}
 use lib.ListN.{length, length-set, set}

@@ -3,7 +3,6 @@ use Rattle.twofish.specs.Q.{rule0, table0}
 use Rattle.words.specs.Rotation.{rotateRight}
 use Rattle.twofish.proofs.Permutations.{follows}
 use mathlib.Core.Path.{refl}
-use borrow.Author.Needs.{needs}
 use Rattle.twofish.proofs.tables.q0.Statement.{statement}
 use Rattle.twofish.proofs.tables.q0.Tie as tie
 

@@ -3,7 +3,6 @@ use Rattle.twofish.specs.Q.{rule1, table1}
 use Rattle.words.specs.Rotation.{rotateRight}
 use Rattle.twofish.proofs.Permutations.{follows}
 use mathlib.Core.Path.{refl}
-use borrow.Author.Needs.{needs}
 use Rattle.twofish.proofs.tables.q1.Statement.{statement}
 use Rattle.twofish.proofs.tables.q1.Tie as tie
 
