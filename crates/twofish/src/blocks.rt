@@ -4,8 +4,8 @@ use super::cipher::decrypt;
 use super::cipher::encrypt;
 use super::key::box_key;
 use super::key::subkeys;
-use super::tables::q0;
-use super::tables::q1;
+use super::q0;
+use super::q1;
 use words::numbers::byte;
 use words::numbers::low;
 ghost use mathlib.Core.Path.{_≡_};
@@ -66,8 +66,8 @@ pub fn bytes(x: Block) -> [u8; 16]
 pub fn encrypt_block(m: &[u8; 32], b: &[u8]) -> [u8; 16]
     ensures { λ r. ⌜ r ≡ encryptBlock (now (m .entry)) (now (b .entry)) ⌝ }
 {
-    let t0 = q0();
-    let t1 = q1();
+    let t0 = q0::table();
+    let t1 = q1::table();
     let s = box_key(m);
     let k = subkeys(&t0, &t1, m);
     bytes(encrypt(&t0, &t1, &s, &k, load(b)))
@@ -76,8 +76,8 @@ pub fn encrypt_block(m: &[u8; 32], b: &[u8]) -> [u8; 16]
 pub fn decrypt_block(m: &[u8; 32], b: &[u8]) -> [u8; 16]
     ensures { λ r. ⌜ r ≡ decryptBlock (now (m .entry)) (now (b .entry)) ⌝ }
 {
-    let t0 = q0();
-    let t1 = q1();
+    let t0 = q0::table();
+    let t1 = q1::table();
     let s = box_key(m);
     let k = subkeys(&t0, &t1, m);
     bytes(decrypt(&t0, &t1, &s, &k, load(b)))

@@ -4,7 +4,8 @@ pub mod blocks;
 pub mod cipher;
 pub mod field;
 pub mod key;
-pub mod tables;
+pub mod q0;
+pub mod q1;
 
 // A block: four words.
 pub struct Block {

@@ -10,10 +10,12 @@ use Rattle.twofish.proofs.blocks.encrypt_block.Tie as tie
 returns : tie.Need-returns
 unfolding encryptBlock
 returns c =
-    let x = c .before .before .load in
+    let tables = c .before .before .before .before .before .before .before in
     let key = c .before .before .before .before .before .before .before .before .before .before .before .before .before .before .args .m .now in
+    let x = c .before .before .load in
+    let encrypted = encrypts key (tables .before .before .before .before .before .table .ensures) (tables .before .before .before .before .table2 .ensures) (tables .before .before .before .box-key .ensures) (tables .subkeys .ensures) (x .result) in
     c .bytes .ensures
-    ∙ ap bytesOf (c .before .encrypt .ensures ∙ encrypts key (c .before .before .before .before .before .before .before .before .before .before .before .before .q0 .ensures) (c .before .before .before .before .before .before .before .before .before .before .before .q1 .ensures) (c .before .before .before .before .before .before .before .before .before .before .box-key .ensures) (c .before .before .before .before .before .before .before .subkeys .ensures) (x .result))
+    ∙ ap bytesOf (c .before .encrypt .ensures ∙ encrypted)
     ∙ ap (λ (z : Block). bytesOf (encryptWords key z)) (x .ensures)
 
 pub encrypt-block-spec : {M : Type 1} → statement M
