@@ -44,7 +44,7 @@ fits m i = listed 40 (subkey q0 q1 (evens m) (odds m)) 0 i (subkey-fits q0 q1 (e
 four : (l : List ℕ) (i : ℕ) → Bytes l → Bytes (at l i ∷ at l (i + 1) ∷ at l (i + 2) ∷ at l (i + 3) ∷ [])
 four l i h = more (byte-at h i) (more (byte-at h (i + 1)) (more (byte-at h (i + 2)) (more (byte-at h (i + 3)) none)))
 
-block-words : (l : List ℕ) → Bytes l → Words (blockOf l)
+pub block-words : (l : List ℕ) → Bytes l → Words (blockOf l)
 unfolding blockOf
 block-words l h =
     record {

@@ -1,0 +1,6 @@
+pub mod ModeLaws
+pub mod StepLaws
+pub mod MemoryLaws
+pub mod TwofishLaws
+pub mod BlockLaws
+pub mod InPlace
