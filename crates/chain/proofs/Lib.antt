@@ -4,3 +4,5 @@ pub mod MemoryLaws
 pub mod TwofishLaws
 pub mod BlockLaws
 pub mod InPlace
+pub mod OpenLoop
+pub mod SealLoop

@@ -11,7 +11,7 @@ use lib.ListN.{length, take, drop, drop-of-length-le}
 use lib.Seq.{take-all, take-at, drop-at}
 use Rattle.words.specs.Slices.{copied}
 use Rattle.chain.specs.Modes.{encipher, decipher}
-use Rattle.chain.specs.Opening.{Opening, opening, step, run}
+use Rattle.chain.specs.Opening.{opening, step, run}
 use Rattle.chain.specs.Memory.{blocksIn, sealed, sealedInto, opened, Handed}
 use Rattle.chain.proofs.StepLaws.{opened-done, opened-count, opened-rest}
 

@@ -11,7 +11,7 @@ ghost use Rattle.chain.specs.Modes.{ecbE, ecbD, cbcE, cbcD};
 ghost use Rattle.chain.specs.Memory.{sealed, sealedInto, opened, Handed};
 ghost use Rattle.chain.specs.Twofish.{twofishCipher};
 
-pub enum Mode {
+enum Mode {
     Ecb,
     Cbc,
 }
