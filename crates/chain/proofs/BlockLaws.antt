@@ -1,0 +1,67 @@
+-- A mode on four words is the mode on their 16 bytes: the bytes of an exclusive or are the exclusive ors of the bytes.
+use Prim.Native.Nat.{ℕ, zero, suc, _/_}
+use mathlib.Core.Path.{_≡_, refl, sym, ap, ap₂, _∙_}
+use mathlib.Core.List.{List, _∷_, _++_}
+use lib.Bits.{bitXor, xor-shr, xor-mod, xor-lt}
+use lib.ListN.{length}
+use Rattle.words.specs.Numbers.{bytesLow, Sized}
+use Rattle.words.specs.Xor.{xored}
+use Rattle.words.proofs.NumberLaws.{bytes-sized}
+use Rattle.words.proofs.XorLaws.{xored-append}
+use Rattle.twofish.specs.Twofish.{blockOf, bytesOf, encryptWords, decryptWords, encryptBlock, decryptBlock}
+use Rattle.twofish.specs.declared.Block.{Block}
+use Rattle.twofish.proofs.Rounds.{Words}
+use Rattle.twofish.proofs.Inverse.{block-words, bytes-block, block-bytes}
+use Rattle.chain.specs.Modes.{ecbE, ecbD, cbcE, cbcD}
+use Rattle.chain.specs.Blocks.{xorBlock, sealedBlock, openedBlock, modeE, modeD}
+use Rattle.chain.specs.Twofish.{twofishCipher}
+use Rattle.chain.specs.declared.Mode.{Mode}
+use Rattle.chain.specs.declared.Mode.the-variants.{Ecb, Cbc}
+
+pub bytes-xor : (n a b : ℕ) → bytesLow n (bitXor a b) ≡ xored (bytesLow n a) (bytesLow n b)
+unfolding bytesLow xored
+bytes-xor zero a b = refl
+bytes-xor (suc n) a b =
+    ap₂ _∷_ (xor-mod a b 8) (ap (bytesLow n) (xor-shr a b 8) ∙ bytes-xor n (a / 256) (b / 256))
+
+word-length : (x y : ℕ) → length (bytesLow 4 x) ≡ length (bytesLow 4 y)
+word-length x y = bytes-sized 4 x .long ∙ sym (bytes-sized 4 y .long)
+
+xor-bytes : (x y : Block) → bytesOf (xorBlock x y) ≡ xored (bytesOf x) (bytesOf y)
+unfolding bytesOf
+xor-bytes x y =
+    ap₂ _++_ (bytes-xor 4 (x .a) (y .a)) (ap₂ _++_ (bytes-xor 4 (x .b) (y .b)) (ap₂ _++_ (bytes-xor 4 (x .c) (y .c)) (bytes-xor 4 (x .d) (y .d))))
+    ∙ sym
+    (xored-append (bytesLow 4 (x .a)) (bytesLow 4 (y .a)) _ _ (word-length (x .a) (y .a))
+    ∙ ap (λ (l : List ℕ). xored (bytesLow 4 (x .a)) (bytesLow 4 (y .a)) ++ l)
+    (xored-append (bytesLow 4 (x .b)) (bytesLow 4 (y .b)) _ _ (word-length (x .b) (y .b))
+    ∙ ap (λ (l : List ℕ). xored (bytesLow 4 (x .b)) (bytesLow 4 (y .b)) ++ l)
+    (xored-append (bytesLow 4 (x .c)) (bytesLow 4 (y .c)) _ _ (word-length (x .c) (y .c)))))
+
+xor-words : (x y : Block) → Words x → Words y → Words (xorBlock x y)
+xor-words x y v w =
+    record {
+      fa = xor-lt 32 (x .a) (y .a) (v .fa) (w .fa);
+      fb = xor-lt 32 (x .b) (y .b) (v .fb) (w .fb);
+      fc = xor-lt 32 (x .c) (y .c) (v .fc) (w .fc);
+      fd = xor-lt 32 (x .d) (y .d) (v .fd) (w .fd);
+    }
+
+-- the words of 16 bytes with a block
+block-xor : (b : List ℕ) (p : Block) → Sized 16 b → Words p → blockOf (xored b (bytesOf p)) ≡ xorBlock (blockOf b) p
+block-xor b p hb hp =
+    ap (λ (l : List ℕ). blockOf (xored l (bytesOf p))) (sym (bytes-block b hb))
+    ∙ ap blockOf (sym (xor-bytes (blockOf b) p))
+    ∙ block-bytes (xorBlock (blockOf b) p) (xor-words (blockOf b) p (block-words b (hb .bytes)) hp)
+
+pub sealed-bytes : (mode : Mode) (k b : List ℕ) (p : Block) → Sized 16 b → Words p
+    → bytesOf (sealedBlock mode (encryptWords k) p (blockOf b)) ≡ modeE mode twofishCipher k (bytesOf p) b
+unfolding sealedBlock modeE ecbE cbcE encryptBlock
+sealed-bytes Ecb k b p hb hp = refl
+sealed-bytes Cbc k b p hb hp = sym (ap (λ (x : Block). bytesOf (encryptWords k x)) (block-xor b p hb hp))
+
+pub opened-bytes : (mode : Mode) (k b : List ℕ) (p : Block)
+    → bytesOf (openedBlock mode (decryptWords k) p (blockOf b)) ≡ modeD mode twofishCipher k (bytesOf p) b
+unfolding openedBlock modeD ecbD cbcD decryptBlock
+opened-bytes Ecb k b p = refl
+opened-bytes Cbc k b p = xor-bytes (decryptWords k (blockOf b)) p

@@ -1,0 +1,8 @@
+pub mod ModeLaws
+pub mod StepLaws
+pub mod MemoryLaws
+pub mod TwofishLaws
+pub mod BlockLaws
+pub mod InPlace
+pub mod OpenLoop
+pub mod SealLoop

@@ -1,0 +1,25 @@
+-- `sealed`: mode by mode, as its definition goes.
+use Rattle.chain.specs.Blocks.{sealedBlock}
+use borrow.Author.Needs.{needs}
+use Rattle.chain.proofs.block.sealed.Statement.{statement}
+use Rattle.chain.proofs.block.sealed.Tie as tie
+
+returns : tie.Need-returns
+unfolding sealedBlock
+returns c = rw (c .before .enum-told .given .1) (c .encrypt .ensures)
+
+returns-2 : tie.Need-returns-2
+unfolding sealedBlock
+returns-2 c = rw (c .before .before .enum-told2 .given .1) (cc)
+
+pub sealed-spec : {M : Type 1} → statement M
+sealed-spec =
+    tie.close
+    (tie.spec
+    (λ c. search needs)
+    (λ c κs. search needs)
+    (λ c. search needs)
+    (λ c κs. search needs)
+    (λ c κs. search needs)
+    returns
+    returns-2)

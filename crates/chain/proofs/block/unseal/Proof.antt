@@ -1,0 +1,26 @@
+-- `unseal`: the block is read, and the bytes of its text are copied over it.
+use Rattle.twofish.specs.Twofish.{bytesOf}
+use Rattle.words.specs.Slices.{copied}
+use mathlib.Core.Path.{ap, _∙_}
+use borrow.Author.Needs.{needs}
+use Rattle.chain.proofs.block.unseal.Statement.{statement}
+use Rattle.chain.proofs.block.unseal.Tie as tie
+
+returns : tie.Need-returns
+returns c =
+    let l = c .before .before .before .before .before .before .before .before .before .before .args .b .now in (
+      c .before .before .before .before .before .before .before .load .ensures,
+      c .before .before .copy .ensures ∙ ap (copied l) (c .before .before .before .before .before .bytes .ensures ∙ ap bytesOf (c .before .before .before .before .before .before .opened .ensures)),
+    )
+
+pub unseal-spec : {M : Type 1} → statement M
+unseal-spec =
+    tie.close
+    (tie.spec
+    (λ c κs. search needs)
+    (λ c κs. search needs)
+    (λ c κs. search needs)
+    (λ c. search needs)
+    (λ c κs. search needs)
+    (λ c. search needs)
+    returns)

@@ -1,0 +1,12 @@
+-- `ecb_decrypt`: `decipher` in the mode ECB.
+use Rattle.chain.specs.Blocks.{modeD}
+use borrow.Author.Needs.{needs}
+use Rattle.chain.proofs.ecb_decrypt.Statement.{statement}
+use Rattle.chain.proofs.ecb_decrypt.Tie as tie
+
+returns : tie.Need-returns
+unfolding modeD
+returns c = c .before .before .decipher .ensures
+
+pub ecb-decrypt-spec : {M : Type 1} → statement M
+ecb-decrypt-spec = tie.close (tie.spec (λ c κs. search needs) (λ c. search needs) returns)

@@ -1,0 +1,12 @@
+-- `ecb_encrypt`: `encipher` in the mode ECB.
+use Rattle.chain.specs.Blocks.{modeE}
+use borrow.Author.Needs.{needs}
+use Rattle.chain.proofs.ecb_encrypt.Statement.{statement}
+use Rattle.chain.proofs.ecb_encrypt.Tie as tie
+
+returns : tie.Need-returns
+unfolding modeE
+returns c = c .before .before .encipher .ensures
+
+pub ecb-encrypt-spec : {M : Type 1} → statement M
+ecb-encrypt-spec = tie.close (tie.spec (λ c κs. search needs) (λ c. search needs) returns)

@@ -1,0 +1,8 @@
+pub mod Every
+pub mod Listed
+pub mod ColumnSums
+pub mod Permutations
+pub mod Pairs
+pub mod Rounds
+pub mod Inverse
+pub mod Keyed

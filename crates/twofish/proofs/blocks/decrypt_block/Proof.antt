@@ -1,0 +1,32 @@
+-- `decrypt_block`: the cipher on four words, with what the key makes of the tables.
+use Rattle.twofish.specs.Twofish.{bytesOf, decryptBlock, decryptWords}
+use Rattle.twofish.specs.declared.Block.{Block}
+use Rattle.twofish.proofs.Keyed.{decrypts}
+use mathlib.Core.Path.{ap, _∙_}
+use borrow.Author.Needs.{needs}
+use Rattle.twofish.proofs.blocks.decrypt_block.Statement.{statement}
+use Rattle.twofish.proofs.blocks.decrypt_block.Tie as tie
+
+returns : tie.Need-returns
+unfolding decryptBlock
+returns c =
+    let tables = c .before .before .before .before .before .before .before in
+    let key = c .before .before .before .before .before .before .before .before .before .before .before .before .before .before .args .m .now in
+    let x = c .before .before .load in
+    let decrypted = decrypts key (tables .before .before .before .before .before .table .ensures) (tables .before .before .before .before .table2 .ensures) (tables .before .before .before .box-key .ensures) (tables .subkeys .ensures) (x .result) in
+    c .bytes .ensures
+    ∙ ap bytesOf (c .before .decrypt .ensures ∙ decrypted)
+    ∙ ap (λ (z : Block). bytesOf (decryptWords key z)) (x .ensures)
+
+pub decrypt-block-spec : {M : Type 1} → statement M
+decrypt-block-spec =
+    tie.close
+    (tie.spec
+    (λ c κs. search needs)
+    (λ c κs. search needs)
+    (λ c κs. search needs)
+    (λ c κs. search needs)
+    (λ c κs. search needs)
+    (λ c κs. search needs)
+    (λ c κs. search needs)
+    returns)

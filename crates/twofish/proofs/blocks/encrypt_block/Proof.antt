@@ -1,0 +1,32 @@
+-- `encrypt_block`: the cipher on four words, with what the key makes of the tables.
+use Rattle.twofish.specs.Twofish.{bytesOf, encryptBlock, encryptWords}
+use Rattle.twofish.specs.declared.Block.{Block}
+use Rattle.twofish.proofs.Keyed.{encrypts}
+use mathlib.Core.Path.{ap, _∙_}
+use borrow.Author.Needs.{needs}
+use Rattle.twofish.proofs.blocks.encrypt_block.Statement.{statement}
+use Rattle.twofish.proofs.blocks.encrypt_block.Tie as tie
+
+returns : tie.Need-returns
+unfolding encryptBlock
+returns c =
+    let tables = c .before .before .before .before .before .before .before in
+    let key = c .before .before .before .before .before .before .before .before .before .before .before .before .before .before .args .m .now in
+    let x = c .before .before .load in
+    let encrypted = encrypts key (tables .before .before .before .before .before .table .ensures) (tables .before .before .before .before .table2 .ensures) (tables .before .before .before .box-key .ensures) (tables .subkeys .ensures) (x .result) in
+    c .bytes .ensures
+    ∙ ap bytesOf (c .before .encrypt .ensures ∙ encrypted)
+    ∙ ap (λ (z : Block). bytesOf (encryptWords key z)) (x .ensures)
+
+pub encrypt-block-spec : {M : Type 1} → statement M
+encrypt-block-spec =
+    tie.close
+    (tie.spec
+    (λ c κs. search needs)
+    (λ c κs. search needs)
+    (λ c κs. search needs)
+    (λ c κs. search needs)
+    (λ c κs. search needs)
+    (λ c κs. search needs)
+    (λ c κs. search needs)
+    returns)

@@ -1,0 +1,84 @@
+// Blocks in bytes, and the cipher on them.
+use super::Block;
+use super::cipher::decrypt;
+use super::cipher::encrypt;
+use super::key::box_key;
+use super::key::subkeys;
+use super::q0;
+use super::q1;
+use words::numbers::byte;
+use words::numbers::low;
+ghost use mathlib.Core.Path.{_≡_};
+ghost use Prim.Native.Nat.{_<_};
+ghost use Rattle.twofish.specs.Table.{at as atOf};
+ghost use Rattle.twofish.specs.Twofish.{wordAt, blockOf, bytesOf, encryptBlock, decryptBlock};
+
+// Byte i, 0 past the end.
+fn at(b: &[u8], i: usize) -> u8
+    ensures { λ r. ⌜ r ≡ atOf (now (b .entry)) i ⌝ }
+{
+    if i < b.len() { b[i] } else { 0 }
+}
+
+fn word(b: &[u8], i: usize) -> u32
+    requires { ⌜ i < 16 ⌝ }
+    ensures { λ r. ⌜ r ≡ wordAt (now (b .entry)) i ⌝ }
+{
+    low(at(b, i), at(b, i + 1), at(b, i + 2), at(b, i + 3))
+}
+
+// The first 16 bytes as a block; what is missing counts as 0.
+pub fn load(b: &[u8]) -> Block
+    ensures { λ r. ⌜ r ≡ blockOf (now (b .entry)) ⌝ }
+{
+    Block {
+        a: word(b, 0),
+        b: word(b, 4),
+        c: word(b, 8),
+        d: word(b, 12),
+    }
+}
+
+pub fn bytes(x: Block) -> [u8; 16]
+    ensures { λ r. ⌜ r ≡ bytesOf x ⌝ }
+{
+    [
+        byte(x.a, 0),
+        byte(x.a, 1),
+        byte(x.a, 2),
+        byte(x.a, 3),
+        byte(x.b, 0),
+        byte(x.b, 1),
+        byte(x.b, 2),
+        byte(x.b, 3),
+        byte(x.c, 0),
+        byte(x.c, 1),
+        byte(x.c, 2),
+        byte(x.c, 3),
+        byte(x.d, 0),
+        byte(x.d, 1),
+        byte(x.d, 2),
+        byte(x.d, 3),
+    ]
+}
+
+// One block under a key.
+pub fn encrypt_block(m: &[u8; 32], b: &[u8]) -> [u8; 16]
+    ensures { λ r. ⌜ r ≡ encryptBlock (now (m .entry)) (now (b .entry)) ⌝ }
+{
+    let t0 = q0::table();
+    let t1 = q1::table();
+    let s = box_key(m);
+    let k = subkeys(&t0, &t1, m);
+    bytes(encrypt(&t0, &t1, &s, &k, load(b)))
+}
+
+pub fn decrypt_block(m: &[u8; 32], b: &[u8]) -> [u8; 16]
+    ensures { λ r. ⌜ r ≡ decryptBlock (now (m .entry)) (now (b .entry)) ⌝ }
+{
+    let t0 = q0::table();
+    let t1 = q1::table();
+    let s = box_key(m);
+    let k = subkeys(&t0, &t1, m);
+    bytes(decrypt(&t0, &t1, &s, &k, load(b)))
+}
