@@ -9,3 +9,4 @@ pub mod Along
 mod FirstField
 mod Stands
 mod Hunt
+pub mod Answers
