@@ -6,9 +6,11 @@ use mathlib.Core.List.{List, [], _∷_}
 use native.Mathlib.Omega.{arith}
 use lib.Dec.{eqb}
 use lib.ListN.{length, getD}
+use Rattle.words.specs.Numbers.{Bytes}
 use Rattle.fields.specs.Stored.{Stored}
 use Rattle.body.specs.Division.{joined}
 use Rattle.body.specs.Sections.{runs}
+use Rattle.body.specs.WellFormed.{WellFormed}
 use Rattle.body.specs.Decision.{fieldsOf, wellFormed, headerIn, recordsIn, headersOf, recordsOf, judgedOf, judgeNumber, judgeValues}
 use Rattle.body.specs.Find.{has, firstWith, soughtIn, findOf, findNumber, findValues}
 use Rattle.body.specs.declared.Judged.{Judged}
@@ -16,6 +18,7 @@ use Rattle.body.specs.declared.Judged.the-variants as judged
 use Rattle.body.specs.declared.Sought.{Sought}
 use Rattle.body.specs.declared.Sought.the-variants as sought
 use Rattle.body.specs.declared.Found.{Found}
+use Rattle.body.proofs.Decided.{well-formed, decides, header-is, records-are, counts-are}
 
 by-counts : (b : Bool) (h n h′ n′ : ℕ) → cond b (judged.Counts h n) judged.NotWellFormed ≡ judged.Counts h′ n′ → b ≡ true
 by-counts true h n h′ n′ e = refl
@@ -88,3 +91,22 @@ judge-one s r r′ h h′ = h ∙ sym h′
 
 pub find-one : (s : List ℕ) (a b : ℕ) (r r′ : Found) → r ≡ findOf s a b → r′ ≡ findOf s a b → r ≡ r′
 find-one s a b r r′ h h′ = h ∙ sym h′
+
+-- accepted, and the answers over the fields that the definition speaks of
+pub judge-is : (s : List ℕ) (w : WellFormed s) → judgedOf s ≡ judged.Counts (length (w .header)) (length (w .records))
+unfolding judgedOf
+judge-is s w = let c = counts-are s w in rw (decides s w, c .0, c .1)
+
+pub find-is : (s : List ℕ) (a b : ℕ) (w : WellFormed s)
+    → findOf s a b ≡ record { sought = firstWith a b 0 (length (joined (w .header)) + 16) (w .records) }
+unfolding findOf
+find-is s a b w = rw (decides s w, header-is s w, records-are s w)
+
+-- refused
+pub judge-not : (s : List ℕ) → Bytes s → (WellFormed s → ⊥) → judgedOf s ≡ judged.NotWellFormed
+unfolding judgedOf
+judge-not s b n = by (wellFormed s) refl
+  where
+    by : (t : Bool) → wellFormed s ≡ t → cond t (judged.Counts (headersOf s) (recordsOf s)) judged.NotWellFormed ≡ judged.NotWellFormed
+    by true e = absurd (n (well-formed s b .0 e))
+    by false e = refl

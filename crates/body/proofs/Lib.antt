@@ -10,3 +10,4 @@ mod FirstField
 mod Stands
 mod Hunt
 pub mod Answers
+pub mod Kept
