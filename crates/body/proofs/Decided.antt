@@ -131,7 +131,7 @@ module _ (s : List ℕ) where
   pub fields-are : (w : WellFormed s) → fieldsOf s ≡ w .fields
   fields-are w = division s (w .fields) (w .divides)
 
-  decides : WellFormed s → wellFormed s ≡ true
+  pub decides : WellFormed s → wellFormed s ≡ true
   unfolding wellFormed
   decides w =
       rw (exact s (w .fields) (w .divides), fields-are w, ends-empty (w .fields) .1 (w .ends), version (w .fields) .1 (w .version), w .sections)

@@ -9,3 +9,5 @@ pub mod Along
 mod FirstField
 mod Stands
 mod Hunt
+pub mod Answers
+pub mod Kept
