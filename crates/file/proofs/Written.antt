@@ -15,7 +15,7 @@ use Rattle.file.specs.Layout.{split}
 use Rattle.file.specs.Edition.{Edition, Laws}
 use Rattle.file.specs.Description.{IsSafe, cbc, fileOf}
 use Rattle.file.specs.Reading.{readingOf}
-use Rattle.file.specs.Writing.{Writing, unwritten, badBody, clear, earlyWriteTests, writeTests, writingOf}
+use Rattle.file.specs.Writing.{Writing, unwritten, badBody, clear, earlyWriteTests, writeTests, written, writingOf}
 use Rattle.file.proofs.Tables.{Decided, passes, stops, decide, all-pass, first-between}
 use Rattle.file.proofs.Markers.{clear-each, each-clear}
 use Rattle.file.proofs.Accepted.{Answers, file-long, safe-read, read-safe}
@@ -56,11 +56,11 @@ is-body n a b c = rw (le-ltb n 32 a, le-ltb 4194096 n b, eq-eqb (n % 16) 0 c)
 module _ (E : Edition) (X : Laws E) (pass salt : List ℕ) (iter : ℕ) (K L iv body : List ℕ) (room : ℕ) where
   is-written : Writes E pass iter K iv body room
       → writingOf E pass salt iter K L iv body room ≡ record { number = 0; output = fileOf E pass salt iter K L iv body (E .covered body) ++ zeros (room - (length body + 200)) }
-  unfolding writingOf writeTests earlyWriteTests
+  unfolding writingOf written writeTests earlyWriteTests
   is-written w = all-pass (λ (k : ℕ). unwritten k room) _ (writeTests E pass iter K iv body room) (w .t1, (w .t2, (w .t3, (w .t5, (w .t9, (w .t10, tt))))))
 
   writes : writingOf E pass salt iter K L iv body room .number ≡ 0 → Writes E pass iter K iv body room
-  unfolding writingOf writeTests earlyWriteTests unwritten
+  unfolding writingOf written writeTests earlyWriteTests unwritten
   writes h = go (decide (λ (k : ℕ). unwritten k room) (record { number = 0; output = fileOf E pass salt iter K L iv body (E .covered body) ++ zeros (room - (length body + 200)) }) (writeTests E pass iter K iv body room))
     where
       go : Decided (λ (k : ℕ). unwritten k room) (writeTests E pass iter K iv body room) (record { number = 0; output = fileOf E pass salt iter K L iv body (E .covered body) ++ zeros (room - (length body + 200)) }) → Writes E pass iter K iv body room
@@ -123,8 +123,8 @@ module _ (E : Edition) (X : Laws E) (pass salt : List ℕ) (iter : ℕ) (K L iv 
     read-back ceiling space hc hs =
         rw front-is (safe-read E X pass (fileOf E pass salt iter K L iv body (E .covered body)) salt iter K L iv body (written-safe v (writes h)) ceiling space hc hs)
 
-abbrev written : List ℕ → Writing
-written o = record { number = 0; output = o }
+abbrev holding : List ℕ → Writing
+holding o = record { number = 0; output = o }
 
 -- WRITING AGAIN: an accepted file's own values give the same file, and zeros after it
 module _ (E : Edition) (X : Laws E) (file pass : List ℕ) (ceiling room : ℕ) (fb : Bytes file) (K L body : List ℕ)
@@ -138,4 +138,4 @@ module _ (E : Edition) (X : Laws E) (file pass : List ℕ) (ceiling room : ℕ) 
       let e : space - (length body + 200) ≡ space - length file = omega arith in
       is-written E X pass (split file .salt) (numberLow (split file .iter)) K L (split file .iv) body space
       (safe-writes E X pass (split file .salt) (numberLow (split file .iter)) K L (split file .iv) body space z (omega arith))
-      ∙ ap₂ (λ (f : List ℕ) (n : ℕ). written (f ++ zeros n)) (ap (fileOf E pass (split file .salt) (numberLow (split file .iter)) K L (split file .iv) body) (X .decides body (z .covered) (z .well-formed) .1) ∙ sym (z .is-file)) e
+      ∙ ap₂ (λ (f : List ℕ) (n : ℕ). holding (f ++ zeros n)) (ap (fileOf E pass (split file .salt) (numberLow (split file .iter)) K L (split file .iv) body) (X .decides body (z .covered) (z .well-formed) .1) ∙ sym (z .is-file)) e

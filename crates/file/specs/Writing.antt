@@ -44,7 +44,10 @@ module _ (E : Edition) where
       earlyWriteTests passphrase iter body room ++ (refuse-if 10 (not (clear (length body / 16) (cbc E K iv body))) ∷ [])
 
   -- accepted: the file, then zeros to the end of the output
+  unfoldable pub written : (passphrase salt : List ℕ) (iter : ℕ) (K L iv body : List ℕ) (room : ℕ) → Writing
+  written passphrase salt iter K L iv body room =
+      record { number = 0; output = fileOf E passphrase salt iter K L iv body (E .covered body) ++ zeros (room - (length body + 200)) }
+
   unfoldable pub writingOf : (passphrase salt : List ℕ) (iter : ℕ) (K L iv body : List ℕ) (room : ℕ) → Writing
   writingOf passphrase salt iter K L iv body room =
-      deciding (λ k. unwritten k room) (writeTests passphrase iter K iv body room)
-      (record { number = 0; output = fileOf E passphrase salt iter K L iv body (E .covered body) ++ zeros (room - (length body + 200)) })
+      deciding (λ k. unwritten k room) (writeTests passphrase iter K iv body room) (written passphrase salt iter K L iv body room)

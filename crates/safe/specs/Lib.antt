@@ -1,3 +1,4 @@
 pub mod V3
 pub mod Answers
 pub mod Steps
+pub mod Laying

@@ -1,12 +1,16 @@
 -- What the inner steps of a reading hand on: each by the state of the definition that it then holds.
-use Prim.Native.Nat.{ℕ, _*_, _+_, _-_, _/_}
+use Prim.Native.Nat.{ℕ}
 use mathlib.Core.Path.{_≡_}
+use mathlib.Core.Bool.{cond}
 use mathlib.Core.List.{List, _++_}
 use lib.ListN.{length, take, drop}
+use Rattle.words.specs.Slices.{same}
+use Rattle.sha256.specs.Hmac.{hmacOf}
+use Rattle.body.specs.Decision.{wellFormed, coveredOf, headersOf, recordsOf}
+use Rattle.body.specs.declared.Judged.{Judged}
+use Rattle.body.specs.declared.Judged.the-variants.{Counts, NotWellFormed}
 use Rattle.chain.specs.Opening.{Opening}
-use Rattle.file.specs.Layout.{Parts, split}
-use Rattle.file.specs.Edition.{Stretched}
-use Rattle.file.specs.Reading.{Report, keysOpened, bodyOpened, judged, checked, workspaceOf}
+use Rattle.file.specs.Reading.{Report, keysOpened, workspaceOf}
 use Rattle.safe.specs.V3.{v3}
 use Rattle.safe.specs.Answers.{reported}
 use Rattle.safe.specs.declared.Reading.{Reading}
@@ -22,6 +26,11 @@ pub record Unwrapped (key keys : List ℕ) (r : Keys) : Type 0 where
 pub record Decrypted (o : Opening) (before after : List ℕ) (count : ℕ) : Type 0 where
   pub text : after ≡ o .done ++ drop (length (o .done)) before
   pub blocks : count ≡ o .count
+
+-- the counts of a body that is well formed and whose HMAC under L is mac, or 9
+unfoldable pub verdictOf : (L mac body : List ℕ) → Judged
+verdictOf L mac body =
+    cond (wellFormed body) (cond (same (hmacOf L (coveredOf body)) mac) (Counts (headersOf body) (recordsOf body)) NotWellFormed) NotWellFormed
 
 -- a reading reports, and the workspace holds, what a report says
 pub record Reports (report : Report) (before after : List ℕ) (r : Reading) : Type 0 where

@@ -1,16 +1,19 @@
 // Password Safe V3 files, read and written whole in lent memory.
-mod early;
+mod assemble;
 mod open;
 mod seal;
+mod tests;
 mod values;
 mod wrap;
 
+
 ghost use mathlib.Core.Path.{_≡_};
 ghost use lib.ListN.{length};
-ghost use Rattle.file.specs.Reading.{readingOf, workspaceOf};
+ghost use Rattle.file.specs.Reading.{readingOf};
 ghost use Rattle.file.specs.Writing.{writingOf};
 ghost use Rattle.safe.specs.V3.{v3};
-ghost use Rattle.safe.specs.Answers.{reported, writtenNumber};
+ghost use Rattle.safe.specs.Answers.{writtenNumber};
+ghost use Rattle.safe.specs.Steps.{Reports};
 
 // Why a file is not read, or not written.
 pub enum Refusal {
@@ -41,7 +44,47 @@ pub struct Reading {
     pub blocks: u64,
 }
 
+// What the tests before any work come to.
+enum Early {
+    Passed,
+    Refused(Refusal),
+}
+
 pub enum Written {
     Done,
     Refused(Refusal),
+}
+
+// A file read whole. Accepted: the keys, the counts of header fields and records, and the workspace holds the body and zeros after it.
+// Refused: keys and these counts zero, and every byte of the workspace zero.
+pub fn read(file: &[u8], passphrase: &[u8], ceiling: u32, workspace: &mut [u8]) -> Reading
+    ensures { λ r. ⌜ Reports (readingOf v3 (now (file .entry)) (now (passphrase .entry)) ceiling (length (now (workspace .entry)))) (now (workspace .entry)) (now (workspace .exit)) r ⌝ }
+{
+    words::slices::zero(workspace);
+    let t = tests::reading(file, passphrase, ceiling, workspace.len());
+    match t {
+        Early::Refused(x) => open::refused(x, 0, 0),
+        Early::Passed => open::open(file, passphrase, workspace),
+    }
+}
+
+// A body written as a file under values that the caller supplies. Done: the output holds the file and zeros after it. Refused: all zero.
+pub fn write(
+    passphrase: &[u8],
+    salt: &[u8; 32],
+    iter: u32,
+    k: &[u8; 32],
+    l: &[u8; 32],
+    iv: &[u8; 16],
+    body: &[u8],
+    output: &mut [u8],
+) -> Written
+    ensures { λ r. ⌜ (writtenNumber r ≡ writingOf v3 (now (passphrase .entry)) (now (salt .entry)) iter (now (k .entry)) (now (l .entry)) (now (iv .entry)) (now (body .entry)) (length (now (output .entry))) .number) × (now (output .exit) ≡ writingOf v3 (now (passphrase .entry)) (now (salt .entry)) iter (now (k .entry)) (now (l .entry)) (now (iv .entry)) (now (body .entry)) (length (now (output .entry))) .output) ⌝ }
+{
+    words::slices::zero(output);
+    let t = tests::writing(passphrase, iter, body, output.len());
+    match t {
+        Early::Refused(x) => Written::Refused(x),
+        Early::Passed => assemble::file(passphrase, salt, iter, k, l, iv, body, output),
+    }
 }

@@ -13,15 +13,17 @@ use words::slices::copy;
 use words::slices::same;
 use words::slices::zero;
 ghost use mathlib.Core.Path.{_≡_};
+ghost use mathlib.Core.List.{[]};
 ghost use Prim.Native.Nat.{_+_, _-_, _*_, _/_, _≤_, _<_, _^_};
 ghost use lib.ListN.{length, take, drop};
 ghost use Rattle.words.specs.Numbers.{numberLow};
 ghost use Rattle.words.specs.Slices.{zeros};
 ghost use Rattle.file.specs.Layout.{split};
+ghost use Rattle.file.specs.Edition.{Stretched};
 ghost use Rattle.file.specs.Reading.{refused as refusedOf, bodyOpened, keysOpened, keyK, keyL, bodyOf, judged as judgedReport, checked as checkedOf};
-ghost use Rattle.safe.specs.V3.{v3, stretchedV3, verdictOf};
+ghost use Rattle.safe.specs.V3.{v3, stretchedV3};
 ghost use Rattle.safe.specs.Answers.{refusalNumber, reported};
-ghost use Rattle.safe.specs.Steps.{Decrypted, Reports};
+ghost use Rattle.safe.specs.Steps.{Decrypted, verdictOf, Reports};
 
 // A refusal: no keys, no counts of fields.
 pub fn refused(x: Refusal, compressions: u64, blocks: u64) -> Reading
@@ -61,4 +63,45 @@ fn judged(body: &[u8], l: &[u8; 32], mac: &[u8]) -> Judged
         return j;
     }
     Judged::NotWellFormed
+}
+
+// The body decrypted and judged; refused, nothing of it stays. `compressions` and the passphrase's check are behind us.
+fn judge(file: &[u8], key: &[u8; 32], compressions: u64, workspace: &mut [u8]) -> Reading
+    requires { ⌜ (length (now file) ≡ 200 + 16 * ((length (now file) - 200) / 16)) × (length (now file) - 200 ≤ length (now workspace)) × (now workspace ≡ zeros (length (now workspace))) ⌝ }
+    ensures { λ r. ⌜ ((s : Stretched) → s .key ≡ now (key .entry) → s .count ≡ compressions → Reports (judgedReport v3 (keyK v3 (split (now (file .entry))) s) (keyL v3 (split (now (file .entry))) s) (split (now (file .entry)) .mac) compressions (bodyOf v3 (split (now (file .entry))) s ((length (now (file .entry)) - 200) / 16))) (now (workspace .entry)) (now (workspace .exit)) r) ⌝ }
+{
+    let keys = unwrap(key, &file[72..136]);
+    let k = keys.k;
+    let l = keys.l;
+    let blocks = decrypt(file, &k, keys.count, workspace);
+    let n = file.len() - 200;
+    let e = file.len() - 32;
+    let j = judged(&workspace[..n], &l, &file[e..]);
+    let Judged::Counts(headers, records) = j else {
+        zero(workspace);
+        return refused(Refusal::Body, compressions, blocks);
+    };
+    Reading {
+        outcome: Outcome::Accepted(headers, records),
+        k: k,
+        l: l,
+        compressions: compressions,
+        blocks: blocks,
+    }
+}
+
+// The passphrase stretched and checked, and then the body.
+pub fn open(file: &[u8], passphrase: &[u8], workspace: &mut [u8]) -> Reading
+    requires { ⌜ (length (now file) ≡ 200 + 16 * ((length (now file) - 200) / 16)) × (length (now file) - 200 ≤ length (now workspace)) × (now workspace ≡ zeros (length (now workspace))) ⌝ }
+    ensures { λ r. ⌜ Reports (checkedOf v3 (split (now (file .entry))) (stretchedV3 (now (passphrase .entry)) (split (now (file .entry)) .salt) (numberLow (split (now (file .entry)) .iter))) ((length (now (file .entry)) - 200) / 16)) (now (workspace .entry)) (now (workspace .exit)) r ⌝ }
+{
+    let salt = value32(&file[4..36]);
+    let s = Stretcher::start(passphrase, &salt).stretched(iter(file));
+    let c = s.step();
+    let want = c.key();
+    if same(&want, &file[40..72]) {
+        let key = s.key();
+        return judge(file, &key, c.count, workspace);
+    }
+    refused(Refusal::Check, c.count, 0)
 }

@@ -10,16 +10,16 @@ use stretch::Stretcher;
 use words::slices::same;
 ghost use mathlib.Core.Path.{_≡_};
 ghost use mathlib.Core.Bool.{not};
-ghost use Prim.Native.Nat.{ℕ, _+_, _-_, _/_, _%_, _≤_};
+ghost use Prim.Native.Nat.{ℕ, _+_, _-_, _*_, _/_, _≤_};
 ghost use lib.Dec.{eqb};
 ghost use lib.ListN.{length, take, drop};
 ghost use Rattle.body.specs.Decision.{wellFormed};
 ghost use Rattle.file.specs.Layout.{split, tag, differ, firstMarker};
 ghost use Rattle.file.specs.Refusals.{deciding};
 ghost use Rattle.file.specs.Reading.{earlyTests};
+ghost use Rattle.file.specs.Writing.{earlyWriteTests};
 ghost use Rattle.safe.specs.V3.{v3};
 ghost use Rattle.safe.specs.Answers.{earlyNumber};
-ghost use Rattle.safe.specs.EarlyWriting.{earlyWriteTests};
 
 fn wrong_tag(file: &[u8]) -> bool
     requires { ⌜ 4 ≤ length (now file) ⌝ }

@@ -1,0 +1,12 @@
+use borrow.Author.Needs.{needs}
+use Rattle.safe.proofs.open.refused.Statement.{statement}
+use Rattle.safe.proofs.open.refused.Tie as tie
+use Rattle.safe.proofs.open.refused.Reads as reads
+use Rattle.safe.proofs.open.refused.Lts as lts
+
+-- src/open.rt:29:1
+returns : tie.Need-returns
+returns c = search needs
+
+pub refused-spec : {M : Type 1} → statement M
+refused-spec = tie.close (tie.spec returns)
