@@ -1,0 +1,36 @@
+-- The V3 edition meets the laws of an edition: by those of the stretcher, of HMAC, of Twofish and of the well-formed body.
+use Prim.Native.Nat.{ℕ, _+_, _<_, _≤_, _^_}
+use mathlib.Core.Path.{_≡_, refl, sym, _∙_}
+use mathlib.Core.Bool.{Bool, true}
+use mathlib.Core.List.{List}
+use native.Mathlib.Omega.{arith}
+use lib.ListN.{length}
+use Rattle.words.specs.Numbers.{Bytes, Sized}
+use Rattle.sha256.specs.Sha256.{sha256}
+use Rattle.sha256.specs.Hmac.{hmacOf}
+use Rattle.sha256.proofs.Digest.{sha256-sized}
+use Rattle.stretch.specs.Stretch.{startOf, stepOf, stretchedOf, keyOf}
+use Rattle.stretch.proofs.Counts.{key-sized, check-count}
+use Rattle.chain.proofs.TwofishLaws.{twofishLaws}
+use Rattle.body.specs.WellFormed.{WellFormed}
+use Rattle.body.specs.Decision.{wellFormed, coveredOf}
+use Rattle.body.proofs.Decided.{decides, well-formed, covered-are}
+use Rattle.file.specs.Edition.{Laws}
+use Rattle.safe.specs.V3.{stretchedV3, v3}
+
+hmac-sized : (k m : List ℕ) → Sized 32 (hmacOf k m)
+unfolding hmacOf
+hmac-sized k m = sha256-sized _
+
+pub v3-laws : Laws v3
+unfolding v3 stretchedV3
+v3-laws =
+    record {
+      key-sized = λ p s n. key-sized (stretchedOf n (startOf p s));
+      check-sized = λ p s n. key-sized (stepOf (stretchedOf n (startOf p s)));
+      count-is = λ p s n h l i. check-count n p s l (omega arith);
+      hmac-sized = hmac-sized;
+      ciphers = twofishLaws;
+      describes = λ b h e. let w = well-formed b h .0 e in (w, sym (covered-are b w));
+      decides = λ b d w. (decides b (w .0), covered-are b (w .0) ∙ w .1);
+    }

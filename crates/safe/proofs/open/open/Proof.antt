@@ -1,0 +1,119 @@
+use borrow.Author.Needs.{needs}
+use Rattle.safe.proofs.open.open.Statement.{statement}
+use Rattle.safe.proofs.open.open.Tie as tie
+use Rattle.safe.proofs.open.open.Reads as reads
+use Rattle.safe.proofs.open.open.Lts as lts
+use Rattle.safe.proofs.open.judge.Reads as judge-reads
+use Rattle.safe.proofs.open.refused.Reads as refused-reads
+use Rattle.safe.proofs.values.iter.Reads as iter-reads
+use Rattle.safe.proofs.values.value32.Reads as value32-reads
+use Rattle.stretch.proofs.Stretcher.key.Reads as key-reads
+use Rattle.stretch.proofs.Stretcher.start.Reads as start-reads
+use Rattle.stretch.proofs.Stretcher.step.Reads as step-reads
+use Rattle.stretch.proofs.Stretcher.stretched.Reads as stretched-reads
+use Rattle.words.proofs.slices.same.Reads as same-reads
+
+-- src/open.rt:98:24
+sub-value32 : tie.Need-sub-value32
+sub-value32 c = search needs
+
+-- src/open.rt:98:24
+part-value32-start : tie.Need-part-value32-start
+part-value32-start c = search needs
+
+-- src/open.rt:98:24
+part-value32-end : tie.Need-part-value32-end
+part-value32-end c = search needs
+
+-- src/open.rt:98:16
+value32-requires : tie.Need-value32-requires
+value32-requires c κs = search needs
+
+-- src/open.rt:99:13
+start-requires : tie.Need-start-requires
+start-requires c κs = search needs
+
+-- src/open.rt:99:59
+iter-requires : tie.Need-iter-requires
+iter-requires c κs = search needs
+
+-- src/open.rt:99:9
+stretched-requires : tie.Need-stretched-requires
+stretched-requires c κs = search needs
+
+-- src/open.rt:100:9
+step-requires : tie.Need-step-requires
+step-requires c κs = search needs
+
+-- src/open.rt:101:16
+key-requires : tie.Need-key-requires
+key-requires c κs = search needs
+
+-- src/open.rt:102:13
+slice-aggregate-same : tie.Need-slice-aggregate-same
+slice-aggregate-same c = search needs
+
+-- src/open.rt:102:20
+sub-same : tie.Need-sub-same
+sub-same c = search needs
+
+-- src/open.rt:102:20
+part-same-start : tie.Need-part-same-start
+part-same-start c = search needs
+
+-- src/open.rt:102:20
+part-same-end : tie.Need-part-same-end
+part-same-end c = search needs
+
+-- src/open.rt:102:8
+same-requires : tie.Need-same-requires
+same-requires c κs = search needs
+
+-- src/open.rt:103:19
+key-requires-2 : tie.Need-key-requires-2
+key-requires-2 c κs = search needs
+
+-- src/open.rt:104:9
+judge-requires : tie.Need-judge-requires
+judge-requires c κs = search needs
+
+-- src/open.rt:104:9
+same-length : tie.Need-same-length
+same-length c = search needs
+
+-- src/open.rt:104:9
+returns : tie.Need-returns
+returns c = search needs
+
+-- src/open.rt:106:5
+refused-requires : tie.Need-refused-requires
+refused-requires c κs = search needs
+
+-- src/open.rt:94:1
+returns-2 : tie.Need-returns-2
+returns-2 c = search needs
+
+pub open-spec : {M : Type 1} → statement M
+open-spec =
+    tie.close
+    (tie.spec
+    sub-value32
+    part-value32-start
+    part-value32-end
+    value32-requires
+    start-requires
+    iter-requires
+    stretched-requires
+    step-requires
+    key-requires
+    slice-aggregate-same
+    sub-same
+    part-same-start
+    part-same-end
+    same-requires
+    key-requires-2
+    judge-requires
+    same-length
+    returns
+    refused-requires
+    returns-2)
