@@ -8,6 +8,7 @@ pub mod chain;
 pub mod fields;
 pub mod hmac;
 pub mod json;
+pub mod random;
 pub mod safe;
 pub mod saved;
 pub mod sha256;
