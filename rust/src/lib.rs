@@ -38,7 +38,7 @@
 
 mod body;
 mod fields;
-mod raw;
+pub mod raw;
 mod refusal;
 mod safe;
 

@@ -1,6 +1,10 @@
-//! The calls as `include/talcfeather.h` declares them, and the numbers in their answers.
+//! The calls themselves, as `include/talcfeather.h` declares and describes them.
+//!
+//! Unsafe to call: pointers must be good for their lengths, and memory that a call changes
+//! must not overlap other memory lent to it.
 
 extern "C" {
+    /// Reads a whole file.
     pub fn talc_read(
         file: *const u8,
         file_len: usize,
@@ -12,6 +16,7 @@ extern "C" {
         answer: *mut [u8; 96],
     ) -> u32;
 
+    /// Writes a whole file.
     pub fn talc_write(
         passphrase: *const u8,
         passphrase_len: usize,
@@ -26,6 +31,7 @@ extern "C" {
         output_len: usize,
     ) -> u32;
 
+    /// Takes one field.
     pub fn talc_walk(
         body: *const u8,
         body_len: usize,
@@ -34,6 +40,7 @@ extern "C" {
         answer: *mut [u8; 72],
     ) -> u32;
 
+    /// Writes one field.
     pub fn talc_append(
         buffer: *mut u8,
         buffer_len: usize,
@@ -46,8 +53,10 @@ extern "C" {
         next: *mut [u8; 8],
     ) -> u32;
 
+    /// Says whether a body is well formed.
     pub fn talc_judge(body: *const u8, body_len: usize, answer: *mut [u8; 16]) -> u32;
 
+    /// Finds a record by its UUID.
     pub fn talc_find(
         body: *const u8,
         body_len: usize,
@@ -57,7 +66,7 @@ extern "C" {
 }
 
 /// The 8-byte numbers of an answer, in order. Missing bytes count as zero.
-pub fn numbers<const N: usize>(answer: &[u8]) -> [u64; N] {
+pub(crate) fn numbers<const N: usize>(answer: &[u8]) -> [u64; N] {
     let mut numbers = [0u64; N];
     for (i, byte) in answer.iter().take(8 * N).enumerate() {
         numbers[i / 8] |= u64::from(*byte) << (i % 8 * 8);
