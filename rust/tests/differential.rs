@@ -211,7 +211,7 @@ fn append_case(random: &mut Random, met: &mut Met) {
     let length = random.below(12) * 16 + random.pick(&[0, 0, 0, 5]);
     let buffer = random.bytes(length);
     let mut data = data(random);
-    let any_kind = random.next() as u8;
+    let any_kind = random.number() as u8;
     let kind = random.pick(&[0x00, 0x01, 0x03, 0x06, any_kind, END]);
     if kind == END && random.one_in(2) {
         data.clear();

@@ -64,7 +64,7 @@ fn nonempty(random: &mut Random) -> Vec<u8> {
 const REPEATABLE: [u8; 8] = [0x0c, 0x0d, 0x0e, 0x11, 0x12, 0x14, 0x80, 0xfe];
 
 fn header(random: &mut Random) -> Vec<Part> {
-    let mut parts = vec![part(0x00, &[random.next() as u8, 0x03])];
+    let mut parts = vec![part(0x00, &[random.number() as u8, 0x03])];
     for kind in (0x01..=0x0b).chain([0x0f, 0x10, 0x13]) {
         if random.one_in(5) {
             parts.push(Part { kind, data: data(random) });
@@ -132,7 +132,7 @@ pub fn damage(random: &mut Random, body: &mut Vec<u8>) {
     let at = random.below(body.len());
     let block = at / 16 * 16;
     match random.below(6) {
-        0 => body[at] = random.next() as u8,
+        0 => body[at] = random.number() as u8,
         1 => body.truncate(block),
         2 => body.truncate(at),
         3 => body.extend(random.bytes(16)),
