@@ -9,8 +9,14 @@
 //!
 //! // A body: header (Version), then one record (UUID, Title, Password).
 //! let mut body = [0u8; 112];
-//! let fields: [(u8, &[u8]); 6] =
-//!     [(0x00, &[0x0e, 0x03]), (0xff, b""), (0x01, &[7; 16]), (0x03, b"Lathe"), (0x06, b"x"), (0xff, b"")];
+//! let fields: [(u8, &[u8]); 6] = [
+//!     (0x00, &[0x0e, 0x03]),
+//!     (0xff, b""),
+//!     (0x01, &[7; 16]),
+//!     (0x03, b"Lathe"),
+//!     (0x06, b"x"),
+//!     (0xff, b""),
+//! ];
 //! let mut place = 0;
 //! for (kind, data) in fields {
 //!     let fill = [0u8; 15]; // from a random source, in a real file

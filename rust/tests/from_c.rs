@@ -33,8 +33,8 @@ fn the_example() {
     let program = compiled("examples/list.c", "list");
     let (status, out) = run(&program, &["examples/floor.psafe3", "a whole floor of lathes"]);
     assert_eq!(status, 0);
-    let lines = "Lathe 3\tworker\t\nMill 1, spindle\tworker\t\nLabel printer\tprint\t\nSägewerk\tmüller\t\n";
-    assert_eq!(out, lines);
+    let logins = ["Lathe 3\tworker", "Mill 1, spindle\tworker", "Label printer\tprint"];
+    assert_eq!(out, logins.join("\t\n") + "\t\nSägewerk\tmüller\t\n");
     assert_eq!(run(&program, &["examples/floor.psafe3", "a whole"]).0, 8);
     assert_eq!(run(&program, &["examples/list.c", ""]).0, 1);
     assert_eq!(run(&program, &["no such file", ""]).0, 1);

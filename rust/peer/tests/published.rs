@@ -59,7 +59,8 @@ fn rfc_4231() {
     }
 }
 
-/// ecb_tbl for 256-bit keys: each key is the last text before the last key, each text the last answer.
+/// ecb_tbl for 256-bit keys: each key is the last text and half the last key, each text the last
+/// answer.
 #[test]
 fn twofish_ecb_tbl() {
     let (mut key, mut text) = ([0u8; 32], [0u8; 16]);

@@ -2,12 +2,17 @@
 
 use talcfeather::{Field, Value};
 
-/// Bytes as text; what could steer a terminal or reorder a line is written out.
+/// Control characters, and those that change the direction of a line.
+fn steers(c: char) -> bool {
+    let turns = matches!(c, '\u{200e}' | '\u{200f}' | '\u{2028}'..='\u{202e}');
+    c.is_control() || turns || matches!(c, '\u{2066}'..='\u{2069}')
+}
+
+/// Bytes as text; what could steer a terminal is written out.
 pub fn text(data: &[u8]) -> String {
     let mut shown = String::new();
     for c in String::from_utf8_lossy(data).chars() {
-        let steers = matches!(c, '\u{200e}' | '\u{200f}' | '\u{2028}'..='\u{202e}' | '\u{2066}'..='\u{2069}');
-        if c.is_control() || steers {
+        if steers(c) {
             shown.extend(c.escape_default());
         } else {
             shown.push(c);
