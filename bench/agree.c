@@ -154,6 +154,11 @@ int main(void)
         compare_hashes((size_t)i * 2654435761u % LONGEST);
         blocks += n / 16;
     }
-    printf("the same for %d keys, %zu blocks each way, %d hashes and HMACs\n", CASES, blocks, CASES);
+#if !defined HAVE_GCRYPT && !defined HAVE_NETTLE
+    fprintf(stderr, "nothing to compare with\n");
+    return 1;
+#endif
+    printf("the same for %d keys, %zu blocks each way, and as many hashes and HMACs\n", CASES,
+           blocks);
     return 0;
 }
