@@ -2,8 +2,9 @@
  * Talcfeather: Password Safe V3 files, read and written in lent memory.
  *
  * Link with libtalcfeather.a. The library allocates nothing, keeps nothing
- * between calls, reads no clock and no random source, calls nothing outside
- * itself, and can be called from several threads at once.
+ * between calls, reads no file, clock or random source, needs at most the C
+ * library's functions on memory, and can be called from several threads at
+ * once.
  *
  * ------------------------------------------------------------------------
  * What holds for every call
@@ -117,7 +118,8 @@ static inline uint64_t talc_number(const uint8_t *p)
  *   6  the file's ITER is above `ceiling`
  *   7  of the 16-byte blocks at 152, 168, .. the first that equals the
  *      marker is not at file_len - 48, or there is none
- *   8  the passphrase is not this file's
+ *   8  the SHA-256 of the stretched passphrase is not the file's: another
+ *      passphrase, or damage before offset 72
  *   9  the body is not well formed, or the HMAC differs
  *
  * The answer, by offset:

@@ -67,7 +67,11 @@ const TABLE: [(Refusal, &str, &str); 14] = [
         "raise the ceiling if the file can be trusted",
     ),
     (Marker, "the file is not whole", "copy it again"),
-    (Wrong, "this is not the passphrase of the file", "type it again"),
+    (
+        Wrong,
+        "this is not the passphrase of the file",
+        "type it again; if it is surely right, copy the file again",
+    ),
     (
         Body,
         "the content is damaged, or breaks a rule of the format",

@@ -2,7 +2,7 @@
 
 mod common;
 
-use common::bodies::{join, part};
+use common::bodies::{data, join, part};
 use peer::fields::END;
 use peer::random::Random;
 use peer::safe::{write, Parts};
@@ -259,6 +259,32 @@ fn refusals() {
             assert!(ended.err.contains(words), "{}", ended.err);
             assert!(ended.err.contains(&format!("refused, {number}: ")), "{}", ended.err);
         }
+    }
+}
+
+/// Every type in header and record, with data of any shape: all shown, nothing stumbles.
+#[test]
+fn any_fields() {
+    let folder = Folder::new("any");
+    for seed in 0..20 {
+        let random = &mut Random(seed);
+        let mut fields = vec![part(0x00, &[0x0e, 0x03])];
+        fields.extend((0x01..END).map(|kind| part(kind, &data(random))));
+        fields.push(part(END, &[]));
+        fields.extend([part(0x01, UUID), part(0x03, &[0xff]), part(0x06, &[0x1b])]);
+        let rest = (0x00..END).filter(|kind| ![0x01, 0x03, 0x06].contains(kind));
+        fields.extend(rest.map(|kind| part(kind, &data(random))));
+        fields.push(part(END, &[]));
+        let file = folder.put("a.psafe3", &safe_around(&join(random, &fields), 2048));
+        let show = |arguments: &[&str]| {
+            let ended = talc(&[arguments, &["--passphrase-stdin"]].concat(), PASSPHRASE);
+            assert_eq!(ended.status, 0, "{}", ended.err);
+            assert!(ended.out.chars().all(|c| !c.is_control() || "\t\n".contains(c)));
+            ended.out.lines().count()
+        };
+        assert_eq!(show(&["list", path(&file)]), 1);
+        assert_eq!(show(&["fields", path(&file)]), 2 + 256 + 256);
+        assert_eq!(show(&["find", path(&file), "0123456789abcdef30313233343536ff"]), 1 + 256);
     }
 }
 
