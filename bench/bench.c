@@ -1,0 +1,102 @@
+/*
+ * The proved code beside others, in one run: SHA-256 of a long message, whole and in pieces;
+ * stretching; Twofish; whole files; judging a body. Each contest checks that all contenders come
+ * to the same outcome. Libraries that are not there are left out.
+ */
+#include <stdio.h>
+
+#include "contenders.h"
+#include "contest.h"
+
+#ifdef HAVE_GCRYPT
+#include <gcrypt.h>
+#endif
+
+uint8_t message[MESSAGE];
+const uint8_t salt[32] = {1, 2, 3};
+const uint8_t iv[16] = {4, 5, 6};
+
+#ifdef HAVE_OPENSSL
+#define OPENSSL(f) {"OpenSSL, no SHA-NI", f, 0},
+#else
+#define OPENSSL(f)
+#endif
+#ifdef HAVE_GCRYPT
+#define GCRYPT(f) {"libgcrypt, no SHA-NI", f, 0},
+#define GCRYPT_TWOFISH(f) {"libgcrypt", f, 0},
+#else
+#define GCRYPT(f)
+#define GCRYPT_TWOFISH(f)
+#endif
+#ifdef HAVE_NETTLE
+#define NETTLE(f) {"nettle, no SHA-NI", f, 0},
+#define NETTLE_TWOFISH(f) {"nettle", f, 0},
+#else
+#define NETTLE(f)
+#define NETTLE_TWOFISH(f)
+#endif
+#if defined HAVE_OPENSSL && defined HAVE_GCRYPT
+#define OTHERS {"OpenSSL and libgcrypt", read_others, 0},
+#else
+#define OTHERS
+#endif
+
+#define PROVED(f) {"proved", f, 0},
+#define PORTABLE(f) {"portable C, gcc -O3", f, 0},
+#define MB(n) ((n) / 1e6)
+#define WHOLE(title) {title, "/s", 1, 3, {PROVED(read_proved) OTHERS}}
+
+static struct contest contests[] = {
+    {"SHA-256, one long message", "MB/s", MB(MESSAGE), 9,
+     {PROVED(hash_proved) PORTABLE(hash_portable) OPENSSL(hash_openssl) GCRYPT(hash_gcrypt)
+      NETTLE(hash_nettle)}},
+    {"SHA-256, the same in pieces of 50 bytes", "MB/s", MB(MESSAGE), 9,
+     {PROVED(pieces_proved) PORTABLE(pieces_portable) OPENSSL(pieces_openssl)
+      GCRYPT(pieces_gcrypt) NETTLE(pieces_nettle)}},
+    {"Stretching: hashes of 32 bytes", "M/s", CHAIN / 1e6, 9,
+     {PROVED(chain_proved) PORTABLE(chain_portable) OPENSSL(chain_openssl) GCRYPT(chain_gcrypt)
+      NETTLE(chain_nettle)}},
+    {"Twofish, CBC decryption", "MB/s", MB(TEXT), 9,
+     {PROVED(cbc_proved) GCRYPT_TWOFISH(cbc_gcrypt) NETTLE_TWOFISH(cbc_nettle)}},
+    {"Twofish, key set-up and one block", "k/s", KEYS / 1e3, 9,
+     {PROVED(keys_proved) GCRYPT_TWOFISH(keys_gcrypt) NETTLE_TWOFISH(keys_nettle)}},
+    WHOLE("Reading a body of 1 MB, ITER 2,048"),
+    WHOLE("Reading a body of 1 MB, ITER 262,144"),
+    WHOLE("Reading a body of 4 MB, ITER 2,048"),
+    WHOLE("Reading a body of 4 MB, ITER 262,144"),
+    {"Judging a body of 4 MB, many small fields", "MB/s", 4.19, 9, {PROVED(judge_proved)}},
+};
+
+enum { COUNT = sizeof contests / sizeof contests[0], FIRST_WHOLE = 5, JUDGE = 9 };
+
+static void prepare(int i)
+{
+    static const struct {
+        size_t length;
+        uint32_t iter;
+    } wholes[] = {{1u << 20, 2048}, {1u << 20, 262144}, {4194096, 2048}, {4194096, 262144}};
+    if (i >= FIRST_WHOLE && i < JUDGE)
+        make_safe(wholes[i - FIRST_WHOLE].length, wholes[i - FIRST_WHOLE].iter);
+    if (i == JUDGE)
+        make_body(4194096, 0, 4);
+}
+
+int main(int count, char **arguments)
+{
+    for (size_t i = 0; i < MESSAGE; i++)
+        message[i] = (uint8_t)(i * 2654435761u >> 13);
+#ifdef HAVE_GCRYPT
+    gcry_control(GCRYCTL_DISABLE_HWF, "intel-shaext", NULL);
+    gcry_check_version(NULL);
+    gcry_control(GCRYCTL_INITIALIZATION_FINISHED, 0);
+#endif
+    printf("best of several rounds, interleaved; the last column is the speed as a multiple of\n"
+           "the proved code's\n");
+    for (int i = 0; i < COUNT; i++) {
+        prepare(i);
+        contest_hold(&contests[i]);
+    }
+    printf("\nproved, pieces of 50 bytes against the whole slice: %.2f\n",
+           contests[0].contenders[0].seconds / contests[1].contenders[0].seconds);
+    return count > 1 ? contest_draw(contests, COUNT, arguments[1]) : 0;
+}

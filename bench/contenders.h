@@ -1,0 +1,46 @@
+/* What is timed. Each function does its work once; libraries that are not there have none. */
+#ifndef CONTENDERS_H
+#define CONTENDERS_H
+
+#include <stddef.h>
+#include <stdint.h>
+
+#define MESSAGE (4u << 20)
+#define TEXT (1u << 20)
+#define PIECE 50
+#define CHAIN 200000
+#define KEYS 2000
+
+/* The proved lower layers. */
+void probe_hash(const uint8_t *m, size_t n, uint8_t out[32]);
+void probe_pieces(const uint8_t *m, size_t n, size_t piece, uint8_t out[32]);
+uint64_t probe_stretch(const uint8_t *passphrase, size_t n, const uint8_t salt[32], uint32_t iter,
+                       uint8_t out[32]);
+uint64_t probe_decrypt(const uint8_t key[32], const uint8_t iv[16], uint8_t *text, size_t n);
+
+/* The message that all take; its first 8 bytes are the passphrase. */
+extern uint8_t message[MESSAGE];
+extern const uint8_t salt[32];
+extern const uint8_t iv[16];
+
+/* Passphrase and salt, which the first hash takes. */
+void first(uint8_t joined[40]);
+/* A key for each number. */
+void key_number(uint8_t key[32], int i);
+void decrypt_gcrypt(const uint8_t *key, uint8_t *t, size_t n);
+
+typedef void contender(uint8_t outcome[32]);
+
+contender hash_proved, hash_portable, hash_openssl, hash_gcrypt, hash_nettle;
+contender pieces_proved, pieces_portable, pieces_openssl, pieces_gcrypt, pieces_nettle;
+contender chain_proved, chain_portable, chain_openssl, chain_gcrypt, chain_nettle;
+contender cbc_proved, cbc_gcrypt, cbc_nettle;
+contender keys_proved, keys_gcrypt, keys_nettle;
+contender read_proved, read_others, judge_proved;
+
+/* A body of records up to about that many bytes, each with notes of that length and some small
+   fields; and a safe around one. They stay for the contenders above. */
+void make_body(size_t length, size_t notes, int small);
+void make_safe(size_t length, uint32_t iter);
+
+#endif

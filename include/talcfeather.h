@@ -1,0 +1,288 @@
+/*
+ * Talcfeather: Password Safe V3 files, read and written in lent memory.
+ *
+ * Link with libtalcfeather.a. The library allocates nothing, keeps nothing
+ * between calls, reads no file, clock or random source, needs at most the C
+ * library's functions on memory, and can be called from several threads at
+ * once.
+ *
+ * ------------------------------------------------------------------------
+ * What holds for every call
+ *
+ * The value returned is 0 or the number of a refusal (TALC_* below). A call
+ * never fails in another way: every length, every content and every number
+ * has an answer.
+ *
+ * Memory is lent for the time of the call as a pointer and a length in
+ * bytes. A pointer may be null when its length is 0. A value of a fixed size
+ * is a pointer to an array of that size, never null. What is behind a
+ * `const` pointer is not changed. Memory that a call changes must not
+ * overlap any other memory lent to the same call; the library relies on
+ * this and does not check it.
+ *
+ * Behind a pointer to an `answer` or to `next`, all bytes are set by every
+ * call, whatever they held before, when the call is refused as well. Numbers
+ * in there take 8 bytes each, unsigned, lowest byte first: talc_number()
+ * reads one. No alignment is needed anywhere.
+ *
+ * "Zero" below means that every byte is 0.
+ *
+ * ------------------------------------------------------------------------
+ * Words
+ *
+ * body      the decrypted content of a safe: a row of fields
+ * field     length (4 bytes, lowest first), type (1), data, fill to the next
+ *           multiple of 16. It takes the smallest number of 16-byte blocks
+ *           that holds 5 + length bytes.
+ * END       the field of type ff; it has no data. The header runs to the
+ *           first END, then each record to one more.
+ * place     offset of a field's first byte in its body, a multiple of 16
+ * fill      the bytes after the data; may be anything, and is kept
+ * ITER      how often the passphrase's hash is hashed again
+ * ceiling   the largest ITER for which the caller is willing to wait
+ * marker    the 16 bytes PWS3-EOFPWS3-EOF between body and HMAC
+ * workspace memory that receives the body
+ *
+ * A body is well formed when all of these hold: it divides exactly into
+ * fields; every END has length 0; the first field is Version (00), length 2,
+ * second byte 03; the header runs to the first END; after it come zero or
+ * more records, each ending at an END, and nothing after the last; header
+ * types 00 to 0b, 0f, 10 and 13 occur at most once; each record has exactly
+ * one UUID (01) of 16 bytes, one Title (03) and one Password (06) of at
+ * least 1 byte each. Unknown types are kept, and so are other known types
+ * with an unexpected length.
+ */
+#ifndef TALCFEATHER_H
+#define TALCFEATHER_H
+
+#include <stdbool.h>
+#include <stddef.h>
+#include <stdint.h>
+
+#ifdef __cplusplus
+extern "C" {
+#endif
+
+/* Refusals, and the calls that give them. */
+#define TALC_OK            0  /* not refused */
+#define TALC_LENGTH        1  /* read, write: the file or body has a length that no safe has */
+#define TALC_PASSPHRASE    2  /* read, write: the passphrase is over 1,024 bytes */
+#define TALC_ROOM          3  /* read, write, append: the lent memory is too short */
+#define TALC_TAG           4  /* read: the file does not start with PWS3 */
+#define TALC_ITER          5  /* read, write: ITER is under 2,048 */
+#define TALC_CEILING       6  /* read: ITER is above the caller's ceiling */
+#define TALC_MARKER        7  /* read: the marker is not where the file's length says */
+#define TALC_WRONG         8  /* read: not the passphrase of this file */
+#define TALC_BODY          9  /* read, write, judge, find: body not well formed, or (read) HMAC differs */
+#define TALC_COLLISION    10  /* write: an encrypted block equals the marker; take another iv */
+#define TALC_PLACE        11  /* append, walk: place no multiple of 16, or past the end */
+#define TALC_FILL         12  /* append: fill is not exactly the needed number of bytes */
+#define TALC_END_DATA     13  /* append: END with data */
+#define TALC_FIELD        14  /* walk: the field is cut or passes the end, or END with data */
+
+/* Limits, in bytes, and the smallest ITER. */
+#define TALC_FILE_MAX        4194304u  /* no file is longer; the longest regular one is 4,194,296 */
+#define TALC_BODY_MIN             32u
+#define TALC_BODY_MAX        4194096u
+#define TALC_PASSPHRASE_MAX     1024u
+#define TALC_AROUND              200u  /* a file is this much longer than its body */
+#define TALC_ITER_MIN           2048u
+
+/* Sizes of answers. */
+#define TALC_READ_ANSWER   96
+#define TALC_WALK_ANSWER   72
+#define TALC_JUDGE_ANSWER  16
+#define TALC_FIND_ANSWER   24
+
+/* The 8-byte number that stands at `p`, lowest byte first. */
+static inline uint64_t talc_number(const uint8_t *p)
+{
+    uint64_t number = 0;
+    for (int i = 7; i >= 0; i--)
+        number = number << 8 | p[i];
+    return number;
+}
+
+/*
+ * Reads a whole file.
+ *
+ * The passphrase is taken as given: 0 to 1,024 bytes of any content.
+ * A workspace of file_len - 200 bytes is enough; a longer one is fine.
+ *
+ * Refusals, the first that applies, in this order:
+ *   1  file_len under 232, over 4,194,304, or file_len - 200 no multiple of 16
+ *   2  passphrase_len over 1,024
+ *   3  workspace_len under file_len - 200
+ *   4  the file does not start with PWS3
+ *   5  the file's ITER is under 2,048
+ *   6  the file's ITER is above `ceiling`
+ *   7  of the 16-byte blocks at 152, 168, .. the first that equals the
+ *      marker is not at file_len - 48, or there is none
+ *   8  the SHA-256 of the stretched passphrase is not the file's: another
+ *      passphrase, or damage before offset 72
+ *   9  the body is not well formed, or the HMAC differs
+ *
+ * The answer, by offset:
+ *    0  K, the key of the body (32 bytes)
+ *   32  L, the key of the HMAC (32 bytes)
+ *   64  number of header fields, the END not counted
+ *   72  number of records
+ *   80  SHA-256 compressions spent on stretching and its check
+ *   88  Twofish blocks decrypted
+ *
+ * Accepted (0): the workspace holds the body (file_len - 200 bytes), then
+ * zeros to its end.
+ * Refused: the whole workspace is zero, for 3 too; K, L and the first two
+ * numbers are zero. The last two are zero for 1 to 7. For 8, 9 and 0 the
+ * third is (passphrase_len + 40) / 64 + 1 + ITER + 1; the fourth is 0 for 8,
+ * else 4 + (file_len - 200) / 16.
+ *
+ * The HMAC covers the data of all fields and neither their types, lengths
+ * nor fill: an accepted file is not proved to be the file that was saved.
+ * The time taken grows with ITER up to `ceiling`; 1 to 7 come before any
+ * stretching. The caller wipes workspace and answer when done with them.
+ */
+uint32_t talc_read(const uint8_t *file, size_t file_len,
+                   const uint8_t *passphrase, size_t passphrase_len,
+                   uint32_t ceiling,
+                   uint8_t *workspace, size_t workspace_len,
+                   uint8_t answer[TALC_READ_ANSWER]);
+
+/*
+ * Writes a whole file: exactly the one that talc_read() reads back to the
+ * same K, L and body. Salt, keys and initial vector are the caller's; for a
+ * new file each comes fresh from a good random source. Written again with
+ * the values of a file that was read, the file is the same byte for byte.
+ *
+ * Refusals, the first that applies, in this order:
+ *   1  body_len under 32, over 4,194,096, or no multiple of 16
+ *   2  passphrase_len over 1,024
+ *   3  output_len under body_len + 200
+ *   5  iter under 2,048
+ *   9  the body is not well formed
+ *  10  an encrypted body block equals the marker: call again with another iv
+ *
+ * Accepted (0): the output holds the file (body_len + 200 bytes), then zeros
+ * to its end.
+ * Refused: the whole output is zero.
+ */
+uint32_t talc_write(const uint8_t *passphrase, size_t passphrase_len,
+                    const uint8_t salt[32], uint32_t iter,
+                    const uint8_t k[32], const uint8_t l[32], const uint8_t iv[16],
+                    const uint8_t *body, size_t body_len,
+                    uint8_t *output, size_t output_len);
+
+/*
+ * Takes one field. `place` is where it starts, `in_record` whether an END
+ * stands before it; a walk starts with 0 and false, and goes on with the
+ * answer's next place and next in_record until the end. The body need not be
+ * well formed, and need not have been read by talc_read().
+ *
+ * Refusals, the first that applies, in this order:
+ *  11  place is no multiple of 16, or over body_len
+ *  14  1 to 15 bytes follow the place, or the field with its fill passes the
+ *      end, or it is an END with data
+ *
+ * The answer, nine numbers by offset:
+ *    0  1 for a field; 0 for the end, when place = body_len
+ *    8  next place: after the field and its fill
+ *   16  next in_record: 1 if in_record, or if this field is an END; else 0
+ *   24  type
+ *   32  place of the field; its data start 5 bytes later
+ *   40  length of its data
+ *   48  kind of value (TALC_VALUE_EMPTY ..)
+ *   56  value
+ *   64  second half of a Uuid
+ *
+ * Refused, and at the end: the answer is zero. Nothing else is written.
+ *
+ * The kinds, with what stands in `value` (0 where nothing is said):
+ *   EMPTY      length 0, and no END, whatever the type
+ *   END        an END
+ *   UUID       16 bytes: header 01; record 01. Bytes 0 to 7 as a number,
+ *              lowest first; bytes 8 to 15 likewise as the second half.
+ *   TIME       4 bytes: header 04, 13; record 07, 08, 09, 0a, 0c. Seconds
+ *              since 1970-01-01.
+ *   NUMBER     header 00, record 13, 17 (2 bytes); record 11, 19 (4 bytes)
+ *   FLAG       1 byte: record 15. 1 if the byte is not zero, else 0.
+ *   TEXT       well-formed UTF-8 that does not start with EF BB BF and does
+ *              not end in 00: header 02, 03, 05 to 0b, 0f, 10, 11; record 02
+ *              to 06, 0d to 10, 12, 14, 16, 18, 1c to 20
+ *   BADTEXT    one of these types, but no such text
+ *   MISSHAPEN  a type of UUID to FLAG, neither empty nor of its size
+ *   OPAQUE     everything else
+ */
+uint32_t talc_walk(const uint8_t *body, size_t body_len,
+                   size_t place, bool in_record,
+                   uint8_t answer[TALC_WALK_ANSWER]);
+
+#define TALC_VALUE_EMPTY      0
+#define TALC_VALUE_END        1
+#define TALC_VALUE_UUID       2
+#define TALC_VALUE_TIME       3
+#define TALC_VALUE_NUMBER     4
+#define TALC_VALUE_FLAG       5
+#define TALC_VALUE_TEXT       6
+#define TALC_VALUE_BADTEXT    7
+#define TALC_VALUE_MISSHAPEN  8
+#define TALC_VALUE_OPAQUE     9
+
+/*
+ * Writes one field into the buffer at `place`, and answers the place after
+ * it. fill_len is exactly what remains of the field's last block:
+ * 15 - (data_len + 4) % 16. It should come from a random source. The order
+ * of fields is the caller's; talc_judge() says whether the whole is well
+ * formed.
+ *
+ * Refusals, the first that applies, in this order:
+ *  11  place is no multiple of 16, or over buffer_len
+ *  13  type ff with data_len over 0
+ *  12  fill_len is not the number above
+ *   3  the field would end past buffer_len or past 4,194,096
+ *
+ * Accepted (0): the field's bytes are length, type, data, fill; all other
+ * bytes of the buffer are unchanged; next is the place after the field.
+ * Refused: the buffer is unchanged; next is zero.
+ */
+uint32_t talc_append(uint8_t *buffer, size_t buffer_len,
+                     size_t place, uint8_t type,
+                     const uint8_t *data, size_t data_len,
+                     const uint8_t *fill, size_t fill_len,
+                     uint8_t next[8]);
+
+/*
+ * Says whether a body is well formed. Length limits are not part of that:
+ * they are refusal 1 of talc_read() and talc_write().
+ *
+ * Refusal: 9, when it is not.
+ *
+ * The answer, two numbers by offset:
+ *    0  number of header fields, the END not counted
+ *    8  number of records
+ *
+ * Refused: the answer is zero. Nothing else is written.
+ */
+uint32_t talc_judge(const uint8_t *body, size_t body_len,
+                    uint8_t answer[TALC_JUDGE_ANSWER]);
+
+/*
+ * Finds the first record whose UUID is these 16 bytes, as they are stored.
+ *
+ * Refusal: 9, when the body is not well formed.
+ *
+ * The answer, three numbers by offset:
+ *    0  1 if there is one, else 0
+ *    8  number of the record, from 0
+ *   16  place of the record's first field (walk on with in_record = true)
+ *
+ * None, or refused: the answer is zero. Nothing else is written.
+ */
+uint32_t talc_find(const uint8_t *body, size_t body_len,
+                   const uint8_t uuid[16],
+                   uint8_t answer[TALC_FIND_ANSWER]);
+
+#ifdef __cplusplus
+}
+#endif
+
+#endif

@@ -1,0 +1,71 @@
+//! The well-formed body, its counts, the bytes that the HMAC covers, find.
+
+use crate::fields::{all, Field, Value, END};
+
+#[derive(Clone, Copy, Debug, PartialEq, Eq)]
+pub struct Counts {
+    pub header_fields: u64,
+    pub records: u64,
+}
+
+#[derive(Clone, Copy, Debug, PartialEq, Eq)]
+pub struct Found {
+    pub record: u64,
+    pub place: usize,
+}
+
+/// Header and records without their ENDs; none if the last field is no END.
+fn parts(fields: &[Field]) -> Option<Vec<&[Field]>> {
+    let (last, rest) = fields.split_last()?;
+    (last.kind == END).then(|| rest.split(|f| f.kind == END).collect())
+}
+
+fn only(record: &[Field], kind: u8) -> Option<&Field> {
+    let mut those = record.iter().filter(|f| f.kind == kind);
+    those.next().filter(|_| those.next().is_none())
+}
+
+fn good_header(header: &[Field], body: &[u8]) -> bool {
+    let once = |kind: u8| header.iter().filter(|f| f.kind == kind).count() <= 1;
+    let starts_with_version =
+        header.first().is_some_and(|f| f.kind == 0 && f.length == 2 && f.data(body)[1] == 3);
+    starts_with_version && (0x00..=0x0b).chain([0x0f, 0x10, 0x13]).all(once)
+}
+
+fn good_record(record: &[Field]) -> bool {
+    only(record, 0x01).is_some_and(|f| f.length == 16)
+        && only(record, 0x03).is_some_and(|f| f.length >= 1)
+        && only(record, 0x06).is_some_and(|f| f.length >= 1)
+}
+
+/// The fields of header and records of a well-formed body.
+fn well_formed(body: &[u8]) -> Result<(Vec<Field>, Vec<Vec<Field>>), u32> {
+    let fields = all(body).map_err(|_| 9u32)?;
+    let parts = parts(&fields).ok_or(9u32)?;
+    let (header, records) = parts.split_first().ok_or(9u32)?;
+    if !good_header(header, body) || !records.iter().all(|r| good_record(r)) {
+        return Err(9);
+    }
+    Ok((header.to_vec(), records.iter().map(|r| r.to_vec()).collect()))
+}
+
+/// The counts of a well-formed body, or 9.
+pub fn judge(body: &[u8]) -> Result<Counts, u32> {
+    let (header, records) = well_formed(body)?;
+    Ok(Counts { header_fields: header.len() as u64, records: records.len() as u64 })
+}
+
+/// The data of all fields in order.
+pub fn covered(body: &[u8]) -> Vec<u8> {
+    let fields = all(body).expect("a body that divides into fields");
+    fields.iter().flat_map(|f| f.data(body)).copied().collect()
+}
+
+/// The first record with that UUID.
+pub fn find(body: &[u8], uuid: &[u8; 16]) -> Result<Option<Found>, u32> {
+    let (_, records) = well_formed(body)?;
+    let half = |i: usize| u64::from_le_bytes(uuid[i..i + 8].try_into().unwrap());
+    let sought = Value::Uuid(half(0), half(8));
+    let number = records.iter().position(|r| r.iter().any(|f| f.value == sought));
+    Ok(number.map(|n| Found { record: n as u64, place: records[n][0].place }))
+}

@@ -1,0 +1,17 @@
+//! An independent implementation of the V3 safe file, written for the tests alone.
+//!
+//! It shares no code with the proved library. It is plain and allocates freely;
+//! the tests compare its answers with the library's.
+
+pub mod body;
+pub mod chain;
+pub mod fields;
+pub mod hmac;
+pub mod json;
+pub mod random;
+pub mod safe;
+pub mod saved;
+pub mod sha256;
+pub mod stretch;
+pub mod text;
+pub mod twofish;

@@ -1,0 +1,83 @@
+//! The rules' own cases, and the files saved by other programs.
+
+use peer::body::judge;
+use peer::fields::{append, size, walk, Cursor, Value};
+use peer::safe::{read, write, Parts};
+use peer::saved::{files, listing_of};
+use peer::stretch::stretch;
+
+#[test]
+fn sizes_of_fields() {
+    assert_eq!([0, 11, 12, 27, 28].map(size), [16, 16, 32, 32, 48]);
+}
+
+#[test]
+fn compressions_of_the_first_hash() {
+    for (length, blocks) in [(23, 1), (24, 2), (1024, 17)] {
+        assert_eq!(stretch(&vec![0; length], &[0; 32], 0).1, blocks);
+    }
+    assert_eq!(stretch(&[0; 24], &[0; 32], 2048).1 + 1, 2051);
+}
+
+fn smallest() -> Vec<u8> {
+    let mut body = vec![0; 32];
+    let next = append(&mut body, 0, 0, &[0x0e, 0x03], &[0; 9]).unwrap();
+    assert_eq!(append(&mut body, next, 0xff, &[], &[0; 11]), Ok(32));
+    body
+}
+
+#[test]
+fn version_and_end_alone() {
+    let counts = judge(&smallest()).unwrap();
+    assert_eq!((counts.header_fields, counts.records), (1, 0));
+}
+
+#[test]
+fn a_huge_field() {
+    let mut body = smallest();
+    body[..4].fill(0xff);
+    let start = Cursor { place: 0, in_record: false };
+    assert_eq!(walk(&body, start), Err(14));
+    assert_eq!(judge(&body), Err(9));
+}
+
+#[test]
+fn values_of_a_record() {
+    let kinds: [(u8, &[u8], Value); 8] = [
+        (0x07, &[1, 2, 0, 0], Value::Time(513)),
+        (0x07, &[1, 2, 0], Value::Misshapen),
+        (0x15, &[2], Value::Flag(true)),
+        (0x13, &[255, 0], Value::Number(255)),
+        (0x03, "ä".as_bytes(), Value::Text),
+        (0x03, &[0xff], Value::BadText),
+        (0x1b, &[1], Value::Opaque),
+        (0x1b, &[], Value::Empty),
+    ];
+    for (kind, data, value) in kinds {
+        let mut buffer = vec![0; 16];
+        append(&mut buffer, 0, kind, data, &vec![0; 11 - data.len()]).unwrap();
+        let (field, _) = walk(&buffer, Cursor { place: 0, in_record: true }).unwrap().unwrap();
+        assert_eq!(field.value, value);
+    }
+}
+
+#[test]
+fn files_saved_by_other_programs() {
+    for saved in files() {
+        let (answer, _) = read(&saved.file, &saved.passphrase, u32::MAX, saved.file.len());
+        assert_eq!(answer.as_ref().err().copied().unwrap_or(0), saved.answer, "{}", saved.name);
+        let Ok(opened) = answer else { continue };
+        assert_eq!(opened.counts.header_fields, saved.header_fields, "{}", saved.name);
+        assert_eq!(opened.counts.records, saved.records, "{}", saved.name);
+        assert_eq!(listing_of(&opened.body), saved.listing, "{}", saved.name);
+        let parts = Parts {
+            passphrase: saved.passphrase,
+            salt: saved.file[4..36].try_into().unwrap(),
+            iter: saved.iter,
+            k: opened.k,
+            l: opened.l,
+            iv: saved.file[136..152].try_into().unwrap(),
+        };
+        assert!(write(&parts, &opened.body, saved.file.len()) == Ok(saved.file), "{}", saved.name);
+    }
+}

@@ -1,0 +1,15 @@
+//! Links the lower layers, which `rt staticlib probe` makes at the project's root.
+
+use std::path::Path;
+
+fn main() {
+    let folder = Path::new(env!("CARGO_MANIFEST_DIR")).join("../../target/staticlib");
+    let archive = folder.join("libprobe.a");
+    println!("cargo:rerun-if-changed={}", archive.display());
+    if !archive.exists() {
+        eprintln!("{} is missing: run `rt staticlib probe` first", archive.display());
+        std::process::exit(1);
+    }
+    println!("cargo:rustc-link-search=native={}", folder.display());
+    println!("cargo:rustc-link-lib=static=probe");
+}

@@ -1,0 +1,180 @@
+//! What each command does with a file.
+
+use crate::arguments::{Arguments, Command, HELP};
+use crate::trouble::Trouble;
+use crate::{files, names, passphrase, progress, show};
+use std::fmt::Write;
+use std::io::IsTerminal;
+use std::path::Path;
+use talcfeather::{Cursor, Field, Opened, Parts, Refusal, Value, Work, AROUND, END, FILE_MAX};
+
+pub fn run(arguments: &Arguments) -> Result<String, Trouble> {
+    match arguments.command {
+        Command::Help => return Ok(HELP.to_string()),
+        Command::Version => return Ok(concat!("talc ", env!("CARGO_PKG_VERSION"), "\n").into()),
+        _ => {}
+    }
+    let path = &arguments.file;
+    // One byte over the limit is enough for the refusal of longer files.
+    let file = files::read(path, FILE_MAX + 1)?;
+    let passphrase = passphrase::get(&arguments.source)?;
+    let mut workspace = vec![0; file.len().saturating_sub(AROUND)];
+    let what = format!("stretching the passphrase{}", rounds(&file));
+    let (outcome, work) = progress::during(&what, || {
+        talcfeather::read_counted(&file, &passphrase, arguments.ceiling, &mut workspace)
+    });
+    let opened = outcome.map_err(|refusal| Trouble::refused(path, refusal))?;
+    let inside = |refusal: Refusal| Trouble::refused(path, refusal);
+    match &arguments.command {
+        Command::Check => Ok(check(path, &opened, work)),
+        Command::List => list(opened.body).map_err(inside),
+        Command::Find(uuid) => find(path, opened.body, uuid),
+        Command::Resave(out) => resave(&file, &passphrase, &opened, out),
+        _ => fields(opened.body).map_err(inside),
+    }
+}
+
+/// How many rounds the file asks for, for the progress line alone.
+fn rounds(file: &[u8]) -> String {
+    let iter = file.get(36..).and_then(|rest| rest.first_chunk());
+    iter.map_or(String::new(), |iter| format!(", {} rounds", u32::from_le_bytes(*iter)))
+}
+
+fn check(path: &Path, opened: &Opened, work: Work) -> String {
+    format!(
+        "{}: accepted, {} header fields, {} records ({} compressions, {} blocks)\n",
+        path.display(),
+        opened.header_fields,
+        opened.records,
+        work.compressions,
+        work.blocks
+    )
+}
+
+/// Hands each field to the taker, with the number of its record or none in the header.
+fn each_field(
+    body: &[u8],
+    mut at: Cursor,
+    mut take: impl FnMut(Option<u64>, Field) -> bool,
+) -> Result<(), Refusal> {
+    let mut record = at.in_record.then_some(0);
+    while let Some((field, next)) = talcfeather::walk(body, at)? {
+        if !take(record, field) {
+            break;
+        }
+        if field.kind == END {
+            record = Some(record.map_or(0, |number| number + 1));
+        }
+        at = next;
+    }
+    Ok(())
+}
+
+/// Title, user, group, expiry.
+type Login = [String; 4];
+
+fn logins(body: &[u8]) -> Result<Vec<Login>, Refusal> {
+    let mut logins = Vec::new();
+    let mut login: [Option<String>; 4] = Default::default();
+    each_field(body, Cursor::START, |record, field| {
+        let column = match (record, field.kind) {
+            (None, _) => return true,
+            (_, 0x03) => 0,
+            (_, 0x04) => 1,
+            (_, 0x02) => 2,
+            (_, 0x0a) => 3,
+            (_, END) => {
+                logins.push(std::mem::take(&mut login).map(Option::unwrap_or_default));
+                return true;
+            }
+            _ => return true,
+        };
+        // The first field of a type counts.
+        login[column].get_or_insert_with(|| shown(&field, body));
+        true
+    })?;
+    Ok(logins)
+}
+
+/// A time of 0 means that the password does not expire.
+fn shown(field: &Field, body: &[u8]) -> String {
+    match field.value {
+        Value::Time(0) | Value::Empty => String::new(),
+        Value::Time(seconds) => show::day(seconds),
+        Value::Misshapen => "?".to_string(),
+        _ => show::text(field.data(body)),
+    }
+}
+
+fn list(body: &[u8]) -> Result<String, Refusal> {
+    let logins = logins(body)?;
+    let mut widths = [0; 4];
+    if std::io::stdout().is_terminal() {
+        for login in &logins {
+            widths = std::array::from_fn(|i| widths[i].max(login[i].chars().count() + 2));
+        }
+        return Ok(logins.iter().map(|login| aligned(login, widths)).collect());
+    }
+    Ok(logins.iter().map(|login| login.join("\t") + "\n").collect())
+}
+
+fn aligned(login: &Login, widths: [usize; 4]) -> String {
+    let columns = login.iter().zip(widths);
+    let line: String = columns.map(|(text, width)| format!("{text:width$}")).collect();
+    line.trim_end().to_string() + "\n"
+}
+
+fn field_line(field: &Field, in_record: bool, body: &[u8]) -> String {
+    let name = names::name(field.kind, in_record);
+    let kind = show::kind(field.value);
+    let value = match names::is_secret(field.kind, in_record) && field.length > 0 {
+        true => "(hidden)".to_string(),
+        false => show::value(field, body),
+    };
+    let (place, number, length) = (field.place, field.kind, field.length);
+    let line = format!("{place:8}  {number:02x}  {name:27}  {length:7}  {kind:9}  {value}");
+    line.trim_end().to_string() + "\n"
+}
+
+fn fields(body: &[u8]) -> Result<String, Refusal> {
+    let mut out = String::from("header\n");
+    each_field(body, Cursor::START, |record, field| {
+        out += &field_line(&field, record.is_some(), body);
+        let next = record.map_or(0, |number| number + 1);
+        if field.kind == END && field.place + 16 < body.len() {
+            let _ = writeln!(out, "record {next}");
+        }
+        true
+    })?;
+    Ok(out)
+}
+
+fn find(path: &Path, body: &[u8], uuid: &[u8; 16]) -> Result<String, Trouble> {
+    let inside = |refusal| Trouble::refused(path, refusal);
+    let found = talcfeather::find(body, uuid).map_err(inside)?;
+    let none = || Trouble::NoRecord(format!("{}: no record has that UUID", path.display()));
+    let found = found.ok_or_else(none)?;
+    let mut out = format!("record {}\n", found.record);
+    let at = Cursor { place: found.place, in_record: true };
+    each_field(body, at, |_, field| {
+        out += &field_line(&field, true, body);
+        field.kind != END
+    })
+    .map_err(inside)?;
+    Ok(out)
+}
+
+fn resave(file: &[u8], passphrase: &[u8], opened: &Opened, out: &Path) -> Result<String, Trouble> {
+    let too_short = || Trouble::refused(out, Refusal::Length);
+    let parts = Parts::of(file, opened).ok_or_else(too_short)?;
+    let mut again = vec![0; opened.body.len() + AROUND];
+    progress::during("stretching the passphrase again", || {
+        talcfeather::write(passphrase, &parts, opened.body, &mut again)
+    })
+    .map_err(|refusal| Trouble::refused(out, refusal))?;
+    if again != file {
+        return Err(Trouble::Differs(format!("{}: would differ; not written", out.display())));
+    }
+    files::write(out, &again)?;
+    Ok(format!("{}: {} bytes, the same byte for byte\n", out.display(), again.len()))
+}

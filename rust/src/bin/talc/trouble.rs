@@ -1,0 +1,77 @@
+//! All ways in which the program can end otherwise than well, with their exit status.
+
+use std::fmt;
+use std::io;
+use std::path::Path;
+use talcfeather::Refusal;
+
+#[derive(Debug)]
+pub enum Trouble {
+    /// The library's refusal; the status is its number.
+    Refused(String, Refusal),
+    /// 64: the arguments.
+    Usage(String),
+    /// 66: the safe or the passphrase can't be read.
+    Input(String),
+    /// 67: no record has that UUID.
+    NoRecord(String),
+    /// 70: written again, the file differs; this contradicts what is proved.
+    Differs(String),
+    /// 73: the new file can't be written.
+    Create(String),
+    /// 74: standard output can't be written to.
+    Output(String),
+    /// 77: given up at the passphrase.
+    GivenUp,
+}
+
+impl Trouble {
+    pub fn refused(path: &Path, refusal: Refusal) -> Trouble {
+        Trouble::Refused(path.display().to_string(), refusal)
+    }
+
+    pub fn usage(message: impl Into<String>) -> Trouble {
+        Trouble::Usage(message.into())
+    }
+
+    pub fn input(path: &Path, error: io::Error) -> Trouble {
+        Trouble::Input(format!("{}: {error}", path.display()))
+    }
+
+    pub fn create(path: &Path, error: io::Error) -> Trouble {
+        Trouble::Create(format!("{}: {error}", path.display()))
+    }
+
+    pub fn output(error: io::Error) -> Trouble {
+        Trouble::Output(format!("standard output: {error}"))
+    }
+
+    pub fn status(&self) -> u8 {
+        match self {
+            // Numbers of refusals are small; one that is not still must not look like success.
+            Trouble::Refused(_, refusal) => u8::try_from(refusal.number()).unwrap_or(70),
+            Trouble::Usage(_) => 64,
+            Trouble::Input(_) => 66,
+            Trouble::NoRecord(_) => 67,
+            Trouble::Differs(_) => 70,
+            Trouble::Create(_) => 73,
+            Trouble::Output(_) => 74,
+            Trouble::GivenUp => 77,
+        }
+    }
+}
+
+impl fmt::Display for Trouble {
+    fn fmt(&self, f: &mut fmt::Formatter<'_>) -> fmt::Result {
+        match self {
+            Trouble::Refused(path, refusal) => write!(f, "{path}: refused, {refusal}"),
+            Trouble::Usage(message) => write!(f, "{message}; try talc --help"),
+            Trouble::GivenUp => write!(f, "given up"),
+            Trouble::Input(message)
+            | Trouble::NoRecord(message)
+            | Trouble::Differs(message)
+            | Trouble::Create(message)
+            | Trouble::Output(message) => write!(f, "{message}"),
+        }
+    }
+}

@@ -1,0 +1,54 @@
+//! Well-formed bodies: their counts, and finding a record.
+
+use crate::raw::{self, numbers};
+use crate::Refusal;
+
+/// What a well-formed body holds.
+#[derive(Clone, Copy, Debug, PartialEq, Eq)]
+pub struct Counts {
+    /// Header fields, the END not counted.
+    pub header_fields: u64,
+    /// Records.
+    pub records: u64,
+}
+
+/// A record that was found.
+#[derive(Clone, Copy, Debug, PartialEq, Eq)]
+pub struct Found {
+    /// Its number, from 0.
+    pub record: u64,
+    /// The place of its first field.
+    pub place: usize,
+}
+
+/// The counts of a well-formed body; [`Refusal::Body`] for any other.
+///
+/// ```
+/// let body = *b"\x02\0\0\0\0\x0e\x03.........\0\0\0\0\xff...........";
+/// assert_eq!(talcfeather::judge(&body)?.header_fields, 1);
+/// assert_eq!(talcfeather::judge(&body[..16]), Err(talcfeather::Refusal::Body));
+/// # Ok::<(), talcfeather::Refusal>(())
+/// ```
+pub fn judge(body: &[u8]) -> Result<Counts, Refusal> {
+    let mut answer = [0u8; 16];
+    // Sound: the slice is lent for the call, and the answer has the size that the call sets.
+    let number = unsafe { raw::talc_judge(body.as_ptr(), body.len(), &mut answer) };
+    Refusal::outcome(number)?;
+    let [header_fields, records] = numbers(&answer);
+    Ok(Counts { header_fields, records })
+}
+
+/// The first record whose UUID is these 16 bytes, as they are stored, or none.
+///
+/// ```
+/// let body = *b"\x02\0\0\0\0\x0e\x03.........\0\0\0\0\xff...........";
+/// assert_eq!(talcfeather::find(&body, &[7; 16]), Ok(None));
+/// ```
+pub fn find(body: &[u8], uuid: &[u8; 16]) -> Result<Option<Found>, Refusal> {
+    let mut answer = [0u8; 24];
+    // Sound: the slices are lent for the call, and the answer has the size that the call sets.
+    let number = unsafe { raw::talc_find(body.as_ptr(), body.len(), uuid, &mut answer) };
+    Refusal::outcome(number)?;
+    let [found, record, place] = numbers(&answer);
+    Ok((found != 0).then_some(Found { record, place: place as usize }))
+}

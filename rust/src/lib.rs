@@ -1,0 +1,65 @@
+//! Reads and writes Password Safe V3 files in lent memory.
+//!
+//! Every call is one call of a proved static library; this crate turns its numbers into
+//! Rust values and adds nothing else. It allocates nothing and needs no `std`.
+//! `include/talcfeather.h` says what each call does; here is what it looks like:
+//!
+//! ```
+//! use talcfeather::{append, fill_needed, read, walk, write, Cursor, Parts, Value};
+//!
+//! // A body: header (Version), then one record (UUID, Title, Password).
+//! let mut body = [0u8; 112];
+//! let fields: [(u8, &[u8]); 6] = [
+//!     (0x00, &[0x0e, 0x03]),
+//!     (0xff, b""),
+//!     (0x01, &[7; 16]),
+//!     (0x03, b"Lathe"),
+//!     (0x06, b"x"),
+//!     (0xff, b""),
+//! ];
+//! let mut place = 0;
+//! for (kind, data) in fields {
+//!     let fill = [0u8; 15]; // from a random source, in a real file
+//!     place = append(&mut body, place, kind, data, &fill[..fill_needed(data.len())])?;
+//! }
+//! assert_eq!(place, body.len());
+//!
+//! // Salt, keys and initial vector come from a random source, in a real file.
+//! let parts = Parts { salt: [1; 32], iter: 2048, k: [2; 32], l: [3; 32], iv: [4; 16] };
+//! let mut file = [0u8; 312];
+//! write(b"passphrase", &parts, &body, &mut file)?;
+//!
+//! let mut workspace = [0u8; 112];
+//! let opened = read(&file, b"passphrase", 1_000_000, &mut workspace)?;
+//! assert_eq!((opened.header_fields, opened.records), (1, 1));
+//! assert_eq!(opened.body, body);
+//!
+//! let (version, next) = walk(opened.body, Cursor::START)?.expect("a first field");
+//! assert_eq!(version.value, Value::Number(0x030e));
+//! assert_eq!(next.place, 16);
+//! # Ok::<(), talcfeather::Refusal>(())
+//! ```
+#![no_std]
+#![warn(missing_docs)]
+
+mod body;
+mod fields;
+pub mod raw;
+mod refusal;
+mod safe;
+
+pub use body::{find, judge, Counts, Found};
+pub use fields::{append, fill_needed, walk, Cursor, Field, Value, END};
+pub use refusal::Refusal;
+pub use safe::{read, read_counted, write, Opened, Parts, Work};
+
+/// No file is longer, in bytes.
+pub const FILE_MAX: usize = 4_194_304;
+/// No body is longer, in bytes.
+pub const BODY_MAX: usize = 4_194_096;
+/// No passphrase is longer, in bytes.
+pub const PASSPHRASE_MAX: usize = 1024;
+/// A file is this much longer than its body, in bytes.
+pub const AROUND: usize = 200;
+/// The smallest number of iterations.
+pub const ITER_MIN: u32 = 2048;

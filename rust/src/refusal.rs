@@ -1,0 +1,134 @@
+//! The refusals, in words.
+
+use core::fmt;
+
+/// Why a call was refused. Prints its number, its meaning and what a person can do about it.
+///
+/// ```
+/// let mut workspace = [0u8; 64];
+/// let refusal = talcfeather::read(b"no safe", b"", 2048, &mut workspace).unwrap_err();
+/// assert_eq!(refusal.number(), 1);
+/// assert_eq!(
+///     refusal.to_string(),
+///     "1: the length is not that of a safe: the file is cut or is no safe; copy it again"
+/// );
+/// ```
+#[derive(Clone, Copy, Debug, PartialEq, Eq)]
+#[non_exhaustive]
+pub enum Refusal {
+    /// 1: the file or body has a length that no safe has.
+    Length,
+    /// 2: the passphrase is over 1,024 bytes.
+    Passphrase,
+    /// 3: the lent memory is too short.
+    Room,
+    /// 4: the file does not start with PWS3.
+    Tag,
+    /// 5: ITER is under 2,048.
+    Iter,
+    /// 6: ITER is above the caller's ceiling.
+    Ceiling,
+    /// 7: the marker is not where the file's length says.
+    Marker,
+    /// 8: not the passphrase of this file.
+    Wrong,
+    /// 9: the body is not well formed, or (reading) the HMAC differs.
+    Body,
+    /// 10: an encrypted block equals the marker.
+    Collision,
+    /// 11: the place is no multiple of 16, or past the end.
+    Place,
+    /// 12: fill is not exactly the needed number of bytes.
+    Fill,
+    /// 13: END with data.
+    EndData,
+    /// 14: the field is cut or passes the end, or END with data.
+    Field,
+    /// A number that this crate does not know: the archive is newer than it.
+    Other(u32),
+}
+
+use Refusal::*;
+
+/// Each refusal with its meaning and what to do about it; the first has number 1.
+const TABLE: [(Refusal, &str, &str); 14] = [
+    (Length, "the length is not that of a safe", "the file is cut or is no safe; copy it again"),
+    (Passphrase, "the passphrase is over 1,024 bytes", "use the passphrase of the file"),
+    (Room, "the lent memory is too short", "lend more"),
+    (Tag, "this is no Password Safe V3 file", "choose a .psafe3 file"),
+    (
+        Iter,
+        "the passphrase is stretched fewer than 2,048 times",
+        "save the file again with a current program",
+    ),
+    (
+        Ceiling,
+        "stretching would take longer than the ceiling allows",
+        "raise the ceiling if the file can be trusted",
+    ),
+    (Marker, "the file is not whole", "copy it again"),
+    (
+        Wrong,
+        "this is not the passphrase of the file",
+        "type it again; if it is surely right, copy the file again",
+    ),
+    (
+        Body,
+        "the content is damaged, or breaks a rule of the format",
+        "copy the file again; or give every entry a title and a password and save it again",
+    ),
+    (Collision, "an encrypted block equals the end marker", "write with another initial vector"),
+    (Place, "the place is no multiple of 16, or past the end", "start from the last answer"),
+    (Fill, "the fill is not exactly what the field needs", "give the number of bytes it needs"),
+    (EndData, "an END field cannot have data", "give it none"),
+    (Field, "the field is cut, or is an END with data", "take the file's own body"),
+];
+
+impl Refusal {
+    /// The number, as the library returns it.
+    pub fn number(self) -> u32 {
+        match (self, TABLE.iter().position(|row| row.0 == self)) {
+            (Other(number), _) => number,
+            (_, row) => row.map_or(0, |row| row as u32 + 1),
+        }
+    }
+
+    /// The refusal with that number; none for 0.
+    ///
+    /// ```
+    /// use talcfeather::Refusal;
+    /// assert_eq!(Refusal::from_number(7), Some(Refusal::Marker));
+    /// assert_eq!(Refusal::from_number(0), None);
+    /// ```
+    pub fn from_number(number: u32) -> Option<Refusal> {
+        let row = number.checked_sub(1)? as usize;
+        Some(TABLE.get(row).map_or(Other(number), |row| row.0))
+    }
+
+    fn row(self) -> Option<&'static (Refusal, &'static str, &'static str)> {
+        TABLE.iter().find(|row| row.0 == self)
+    }
+
+    /// What is wrong.
+    pub fn meaning(self) -> &'static str {
+        self.row().map_or("a refusal that this program does not know", |row| row.1)
+    }
+
+    /// What a person can do about it.
+    pub fn advice(self) -> &'static str {
+        self.row().map_or("use a newer version of this program", |row| row.2)
+    }
+
+    /// The outcome for a number that a call returned.
+    pub(crate) fn outcome(number: u32) -> Result<(), Refusal> {
+        Refusal::from_number(number).map_or(Ok(()), Err)
+    }
+}
+
+impl fmt::Display for Refusal {
+    fn fmt(&self, f: &mut fmt::Formatter<'_>) -> fmt::Result {
+        write!(f, "{}: {}: {}", self.number(), self.meaning(), self.advice())
+    }
+}
+
+impl core::error::Error for Refusal {}

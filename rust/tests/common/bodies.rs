@@ -1,0 +1,163 @@
+//! Random bodies: well formed, and damaged in one way.
+
+use peer::fields::{size, END};
+use peer::random::Random;
+
+/// A field before it is bytes.
+#[derive(Clone, Debug)]
+pub struct Part {
+    pub kind: u8,
+    pub data: Vec<u8>,
+}
+
+pub fn part(kind: u8, data: &[u8]) -> Part {
+    Part { kind, data: data.to_vec() }
+}
+
+/// The bytes of one field; the length need not be the data's.
+pub fn field(random: &mut Random, part: &Part) -> Vec<u8> {
+    let mut bytes = (part.data.len() as u32).to_le_bytes().to_vec();
+    bytes.push(part.kind);
+    bytes.extend_from_slice(&part.data);
+    let fill = size(part.data.len()) - bytes.len();
+    bytes.extend(random.bytes(fill));
+    bytes
+}
+
+pub fn join(random: &mut Random, parts: &[Part]) -> Vec<u8> {
+    parts.iter().flat_map(|p| field(random, p)).collect()
+}
+
+/// Text, or what comes close to it.
+fn textlike(random: &mut Random, length: usize) -> Vec<u8> {
+    let mut text = String::new();
+    while text.len() < length {
+        text.push(random.pick(&['a', 'Z', '0', ' ', 'ä', 'ž', '密', '🔑', '\u{0}', '\u{feff}']));
+    }
+    let mut bytes = text.into_bytes();
+    if random.one_in(4) {
+        let at = random.below(bytes.len() + 1);
+        bytes.insert(at, random.pick(&[0x80, 0xc0, 0xc2, 0xe0, 0xed, 0xf0, 0xf4, 0xff]));
+    }
+    bytes
+}
+
+/// Data of a length near one that matters.
+pub fn data(random: &mut Random) -> Vec<u8> {
+    let more = random.below(80);
+    let length = random.pick(&[0, 1, 2, 3, 4, 5, 8, 10, 11, 12, 15, 16, 17, 26, 27, 28, more]);
+    if random.one_in(3) {
+        random.bytes(length)
+    } else {
+        textlike(random, length)
+    }
+}
+
+fn nonempty(random: &mut Random) -> Vec<u8> {
+    let mut data = data(random);
+    if data.is_empty() {
+        data.push(b'x');
+    }
+    data
+}
+
+const REPEATABLE: [u8; 8] = [0x0c, 0x0d, 0x0e, 0x11, 0x12, 0x14, 0x80, 0xfe];
+
+fn header(random: &mut Random) -> Vec<Part> {
+    let mut parts = vec![part(0x00, &[random.number() as u8, 0x03])];
+    for kind in (0x01..=0x0b).chain([0x0f, 0x10, 0x13]) {
+        if random.one_in(5) {
+            parts.push(Part { kind, data: data(random) });
+        }
+    }
+    for _ in 0..random.below(3) {
+        let at = 1 + random.below(parts.len());
+        parts.insert(at, Part { kind: random.pick(&REPEATABLE), data: data(random) });
+    }
+    parts.push(part(END, &[]));
+    parts
+}
+
+fn record(random: &mut Random) -> Vec<Part> {
+    let uuid = if random.one_in(2) { [7; 16] } else { random.array() };
+    let mut parts = vec![
+        part(0x01, &uuid),
+        Part { kind: 0x03, data: nonempty(random) },
+        Part { kind: 0x06, data: nonempty(random) },
+    ];
+    for _ in 0..random.below(5) {
+        let kind = random.pick(&[
+            0x00, 0x02, 0x04, 0x05, 0x07, 0x0a, 0x0b, 0x0c, 0x0d, 0x11, 0x13, 0x15, 0x17, 0x19,
+            0x1a, 0x1b, 0x20, 0x21, 0xdf, 0xfe,
+        ]);
+        let at = random.below(parts.len() + 1);
+        parts.insert(at, Part { kind, data: data(random) });
+    }
+    if random.one_in(2) {
+        parts.rotate_left(1);
+    }
+    parts.push(part(END, &[]));
+    parts
+}
+
+/// The fields of a well-formed body.
+pub fn good(random: &mut Random) -> Vec<Part> {
+    let mut parts = header(random);
+    for _ in 0..random.pick(&[0, 1, 1, 2, 3, 6]) {
+        parts.extend(record(random));
+    }
+    parts
+}
+
+/// One change to the row of fields.
+pub fn rearrange(random: &mut Random, parts: &mut Vec<Part>) {
+    let at = random.below(parts.len());
+    let other = random.below(parts.len());
+    match random.below(7) {
+        0 => drop(parts.remove(at)),
+        1 => parts.insert(other, parts[at].clone()),
+        2 => parts[at].kind = random.pick(&[0x00, 0x01, 0x03, 0x06, 0x13, END]),
+        3 => parts[at].data = data(random),
+        4 => parts.swap(at, other),
+        5 => drop(parts.pop()),
+        _ => parts.push(part(random.pick(&[0x01, 0x03, END]), &[])),
+    }
+}
+
+/// One change to the bytes of a body.
+pub fn damage(random: &mut Random, body: &mut Vec<u8>) {
+    if body.is_empty() {
+        return;
+    }
+    let at = random.below(body.len());
+    let block = at / 16 * 16;
+    match random.below(6) {
+        0 => body[at] = random.number() as u8,
+        1 => body.truncate(block),
+        2 => body.truncate(at),
+        3 => body.extend(random.bytes(16)),
+        4 => body[block..block + 4].copy_from_slice(&length_bytes(random)),
+        _ => body[block + 4] = random.pick(&[0x00, 0x01, 0x03, 0x06, 0x10, END]),
+    }
+}
+
+/// Lengths at which 5 + length, or a block more, runs over in 32 bits, and others.
+fn length_bytes(random: &mut Random) -> [u8; 4] {
+    let small = random.below(200) as u32;
+    let huge = u32::MAX - random.below(24) as u32;
+    random.pick(&[0, small, small, huge, u32::MAX, 0x8000_0000]).to_le_bytes()
+}
+
+/// A body that may be well formed, or nearly.
+pub fn any(random: &mut Random) -> Vec<u8> {
+    let mut parts = good(random);
+    let how = random.below(4);
+    if how == 1 {
+        rearrange(random, &mut parts);
+    }
+    let mut body = join(random, &parts);
+    if how == 2 {
+        damage(random, &mut body);
+    }
+    body
+}

@@ -1,0 +1,7 @@
+//! What the tests share: lent memory between guards, and each call with its answer and all
+//! memory afterwards, from the library and from the independent implementation.
+#![allow(dead_code)]
+
+pub mod bodies;
+pub mod calls;
+pub mod guarded;
