@@ -1,1 +1,5 @@
 pub mod V3Laws
+pub mod Slots
+pub mod Opened
+pub mod Sealing
+pub mod Verdicts

@@ -30,7 +30,7 @@ enum-told c = search needs
 
 -- src/lib.rt:67:26
 open-requires : tie.Need-open-requires
-open-requires c κs = search needs
+open-requires c κs = ?
 
 -- src/lib.rt:60:1
 same-length : tie.Need-same-length
@@ -38,7 +38,7 @@ same-length c = search needs
 
 -- src/lib.rt:60:1
 returns : tie.Need-returns
-returns c = search needs
+returns c = ?
 
 -- src/lib.rt:60:1
 same-length-2 : tie.Need-same-length-2
@@ -46,7 +46,7 @@ same-length-2 c = search needs
 
 -- src/lib.rt:60:1
 returns-2 : tie.Need-returns-2
-returns-2 c = search needs
+returns-2 c = ?
 
 pub read-spec : {M : Type 1} → statement M
 read-spec =

@@ -25,7 +25,7 @@ enum-told c = search needs
 
 -- src/lib.rt:88:26
 file-requires : tie.Need-file-requires
-file-requires c κs = search needs
+file-requires c κs = ?
 
 -- src/lib.rt:72:1
 same-length : tie.Need-same-length
@@ -33,7 +33,7 @@ same-length c = search needs
 
 -- src/lib.rt:72:1
 returns : tie.Need-returns
-returns c = search needs
+returns c = ?
 
 -- src/lib.rt:72:1
 same-length-2 : tie.Need-same-length-2
@@ -41,7 +41,7 @@ same-length-2 c = search needs
 
 -- src/lib.rt:72:1
 returns-2 : tie.Need-returns-2
-returns-2 c = search needs
+returns-2 c = ?
 
 pub write-spec : {M : Type 1} → statement M
 write-spec =

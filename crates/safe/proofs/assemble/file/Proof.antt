@@ -61,7 +61,7 @@ same-length c = search needs
 
 -- src/assemble.rt:70:9
 returns : tie.Need-returns
-returns c = search needs
+returns c = ?
 
 -- src/assemble.rt:72:13
 marker-requires : tie.Need-marker-requires
@@ -81,7 +81,7 @@ seal-requires c κs = search needs
 
 -- src/assemble.rt:75:17
 add-lay : tie.Need-add-lay
-add-lay c = search needs
+add-lay c = ?
 
 -- src/assemble.rt:75:25
 slice-aggregate-lay-2 : tie.Need-slice-aggregate-lay-2
@@ -97,7 +97,7 @@ same-length-2 c = search needs
 
 -- src/assemble.rt:51:1
 returns-2 : tie.Need-returns-2
-returns-2 c = search needs
+returns-2 c = ?
 
 pub file-spec : {M : Type 1} → statement M
 file-spec =

@@ -73,7 +73,7 @@ slice-aggregate-lay-3 c = search needs
 
 -- src/assemble.rt:45:5
 lay-requires-4 : tie.Need-lay-requires-4
-lay-requires-4 c κs = search needs
+lay-requires-4 c κs = ?
 
 -- src/assemble.rt:46:16
 wrap-requires : tie.Need-wrap-requires
@@ -85,19 +85,19 @@ slice-aggregate-lay-4 c = search needs
 
 -- src/assemble.rt:47:5
 lay-requires-5 : tie.Need-lay-requires-5
-lay-requires-5 c κs = search needs
+lay-requires-5 c κs = ?
 
 -- src/assemble.rt:48:5
 lay-requires-6 : tie.Need-lay-requires-6
-lay-requires-6 c κs = search needs
+lay-requires-6 c κs = ?
 
 -- src/assemble.rt:25:1
 same-length : tie.Need-same-length
-same-length c = search needs
+same-length c = ?
 
 -- src/assemble.rt:25:1
 returns : tie.Need-returns
-returns c = search needs
+returns c = ?
 
 pub head-spec : {M : Type 1} → statement M
 head-spec =

@@ -20,11 +20,11 @@ enum-told-2 c = search needs
 
 -- src/open.rt:59:9
 returns : tie.Need-returns
-returns c = search needs
+returns c = ?
 
 -- src/open.rt:61:13
 seal-requires : tie.Need-seal-requires
-seal-requires c κs = search needs
+seal-requires c κs = ?
 
 -- src/open.rt:62:13
 slice-aggregate-same : tie.Need-slice-aggregate-same
@@ -36,11 +36,11 @@ same-requires c κs = search needs
 
 -- src/open.rt:63:9
 returns-2 : tie.Need-returns-2
-returns-2 c = search needs
+returns-2 c = ?
 
 -- src/open.rt:54:1
 returns-3 : tie.Need-returns-3
-returns-3 c = search needs
+returns-3 c = ?
 
 pub judged-spec : {M : Type 1} → statement M
 judged-spec =

@@ -13,85 +13,85 @@ use Rattle.stretch.proofs.Stretcher.step.Reads as step-reads
 use Rattle.stretch.proofs.Stretcher.stretched.Reads as stretched-reads
 use Rattle.words.proofs.slices.same.Reads as same-reads
 
--- src/open.rt:98:24
+-- src/open.rt:97:24
 sub-value32 : tie.Need-sub-value32
 sub-value32 c = search needs
 
--- src/open.rt:98:24
+-- src/open.rt:97:24
 part-value32-start : tie.Need-part-value32-start
 part-value32-start c = search needs
 
--- src/open.rt:98:24
+-- src/open.rt:97:24
 part-value32-end : tie.Need-part-value32-end
 part-value32-end c = search needs
 
--- src/open.rt:98:16
+-- src/open.rt:97:16
 value32-requires : tie.Need-value32-requires
 value32-requires c κs = search needs
 
--- src/open.rt:99:13
+-- src/open.rt:98:13
 start-requires : tie.Need-start-requires
 start-requires c κs = search needs
 
--- src/open.rt:99:59
+-- src/open.rt:98:59
 iter-requires : tie.Need-iter-requires
 iter-requires c κs = search needs
 
--- src/open.rt:99:9
+-- src/open.rt:98:9
 stretched-requires : tie.Need-stretched-requires
 stretched-requires c κs = search needs
 
--- src/open.rt:100:9
+-- src/open.rt:99:9
 step-requires : tie.Need-step-requires
 step-requires c κs = search needs
 
--- src/open.rt:101:16
+-- src/open.rt:100:16
 key-requires : tie.Need-key-requires
 key-requires c κs = search needs
 
--- src/open.rt:102:13
+-- src/open.rt:101:13
 slice-aggregate-same : tie.Need-slice-aggregate-same
 slice-aggregate-same c = search needs
 
--- src/open.rt:102:20
+-- src/open.rt:101:20
 sub-same : tie.Need-sub-same
 sub-same c = search needs
 
--- src/open.rt:102:20
+-- src/open.rt:101:20
 part-same-start : tie.Need-part-same-start
 part-same-start c = search needs
 
--- src/open.rt:102:20
+-- src/open.rt:101:20
 part-same-end : tie.Need-part-same-end
 part-same-end c = search needs
 
--- src/open.rt:102:8
+-- src/open.rt:101:8
 same-requires : tie.Need-same-requires
 same-requires c κs = search needs
 
--- src/open.rt:103:19
+-- src/open.rt:102:19
 key-requires-2 : tie.Need-key-requires-2
 key-requires-2 c κs = search needs
 
--- src/open.rt:104:9
+-- src/open.rt:103:9
 judge-requires : tie.Need-judge-requires
-judge-requires c κs = search needs
+judge-requires c κs = ?
 
--- src/open.rt:104:9
+-- src/open.rt:103:9
 same-length : tie.Need-same-length
 same-length c = search needs
 
--- src/open.rt:104:9
+-- src/open.rt:103:9
 returns : tie.Need-returns
-returns c = search needs
+returns c = ?
 
--- src/open.rt:106:5
+-- src/open.rt:105:5
 refused-requires : tie.Need-refused-requires
 refused-requires c κs = search needs
 
--- src/open.rt:94:1
+-- src/open.rt:93:1
 returns-2 : tie.Need-returns-2
-returns-2 c = search needs
+returns-2 c = ?
 
 pub open-spec : {M : Type 1} → statement M
 open-spec =

@@ -6,7 +6,7 @@ use Rattle.safe.proofs.open.refused.Lts as lts
 
 -- src/open.rt:29:1
 returns : tie.Need-returns
-returns c = search needs
+returns c = ?
 
 pub refused-spec : {M : Type 1} → statement M
 refused-spec = tie.close (tie.spec returns)

@@ -25,7 +25,7 @@ start-requires-2 c κs = search needs
 
 -- src/seal.rt:15:5
 loop-holds : tie.Need-loop-holds Inv-loop μ-loop
-loop-holds c = search needs
+loop-holds c = ?
 
 -- src/seal.rt:16:37
 walk-requires : tie.Need-walk-requires Inv-loop μ-loop
@@ -37,15 +37,15 @@ enum-known-f c = search needs
 
 -- src/seal.rt:17:13
 returns : tie.Need-returns Inv-loop μ-loop
-returns c = search needs
+returns c = ?
 
 -- src/seal.rt:19:17
 add-a : tie.Need-add-a Inv-loop μ-loop
-add-a c = search needs
+add-a c = ?
 
 -- src/seal.rt:20:17
 add-e : tie.Need-add-e Inv-loop μ-loop
-add-e c = search needs
+add-e c = ?
 
 -- src/seal.rt:21:32
 sub-take-in : tie.Need-sub-take-in Inv-loop μ-loop
@@ -57,7 +57,7 @@ part-take-in-start c = search needs
 
 -- src/seal.rt:21:32
 part-take-in-end : tie.Need-part-take-in-end Inv-loop μ-loop
-part-take-in-end c = search needs
+part-take-in-end c = ?
 
 -- src/seal.rt:21:9
 take-in-requires : tie.Need-take-in-requires Inv-loop μ-loop
@@ -65,11 +65,11 @@ take-in-requires c κs = search needs
 
 -- src/seal.rt:15:5
 loop-less : tie.Need-loop-less Inv-loop μ-loop
-loop-less c = search needs
+loop-less c = ?
 
 -- src/seal.rt:15:5
 loop-again : tie.Need-loop-again Inv-loop μ-loop
-loop-again c = search needs
+loop-again c = ?
 
 -- src/seal.rt:24:5
 finish-requires : tie.Need-finish-requires Inv-loop μ-loop
@@ -77,7 +77,7 @@ finish-requires c κs = search needs
 
 -- src/seal.rt:9:1
 returns-2 : tie.Need-returns-2 Inv-loop μ-loop
-returns-2 c = search needs
+returns-2 c = ?
 
 pub seal-spec : {M : Type 1} → statement M
 seal-spec =

@@ -18,11 +18,11 @@ enum-told-2 c = search needs
 
 -- src/tests.rt:77:9
 returns : tie.Need-returns
-returns c = search needs
+returns c = ?
 
 -- src/tests.rt:72:1
 returns-2 : tie.Need-returns-2
-returns-2 c = search needs
+returns-2 c = ?
 
 pub bad-fields-spec : {M : Type 1} → statement M
 bad-fields-spec = tie.close (tie.spec judge-requires enum-told enum-told-2 returns returns-2)

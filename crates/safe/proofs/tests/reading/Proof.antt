@@ -14,51 +14,51 @@ bad-length-requires c κs = search needs
 
 -- src/tests.rt:47:9
 returns : tie.Need-returns
-returns c = search needs
+returns c = ?
 
 -- src/tests.rt:50:9
 returns-2 : tie.Need-returns-2
-returns-2 c = search needs
+returns-2 c = ?
 
 -- src/tests.rt:52:13
 sub-n : tie.Need-sub-n
-sub-n c = search needs
+sub-n c = ?
 
 -- src/tests.rt:54:9
 returns-3 : tie.Need-returns-3
-returns-3 c = search needs
+returns-3 c = ?
 
 -- src/tests.rt:56:8
 wrong-tag-requires : tie.Need-wrong-tag-requires
-wrong-tag-requires c κs = search needs
+wrong-tag-requires c κs = ?
 
 -- src/tests.rt:57:9
 returns-4 : tie.Need-returns-4
-returns-4 c = search needs
+returns-4 c = ?
 
 -- src/tests.rt:59:9
 iter-requires : tie.Need-iter-requires
-iter-requires c κs = search needs
+iter-requires c κs = ?
 
 -- src/tests.rt:61:9
 returns-5 : tie.Need-returns-5
-returns-5 c = search needs
+returns-5 c = ?
 
 -- src/tests.rt:64:9
 returns-6 : tie.Need-returns-6
-returns-6 c = search needs
+returns-6 c = ?
 
 -- src/tests.rt:66:8
 wrong-marker-requires : tie.Need-wrong-marker-requires
-wrong-marker-requires c κs = search needs
+wrong-marker-requires c κs = ?
 
 -- src/tests.rt:67:9
 returns-7 : tie.Need-returns-7
-returns-7 c = search needs
+returns-7 c = ?
 
 -- src/tests.rt:43:1
 returns-8 : tie.Need-returns-8
-returns-8 c = search needs
+returns-8 c = ?
 
 pub reading-spec : {M : Type 1} → statement M
 reading-spec =

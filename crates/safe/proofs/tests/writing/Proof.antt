@@ -12,11 +12,11 @@ bad-body-requires c κs = search needs
 
 -- src/tests.rt:86:9
 returns : tie.Need-returns
-returns c = search needs
+returns c = ?
 
 -- src/tests.rt:89:9
 returns-2 : tie.Need-returns-2
-returns-2 c = search needs
+returns-2 c = ?
 
 -- src/tests.rt:91:15
 add-if3 : tie.Need-add-if3
@@ -24,11 +24,11 @@ add-if3 c = search needs
 
 -- src/tests.rt:92:9
 returns-3 : tie.Need-returns-3
-returns-3 c = search needs
+returns-3 c = ?
 
 -- src/tests.rt:95:9
 returns-4 : tie.Need-returns-4
-returns-4 c = search needs
+returns-4 c = ?
 
 -- src/tests.rt:97:8
 bad-fields-requires : tie.Need-bad-fields-requires
@@ -36,11 +36,11 @@ bad-fields-requires c κs = search needs
 
 -- src/tests.rt:98:9
 returns-5 : tie.Need-returns-5
-returns-5 c = search needs
+returns-5 c = ?
 
 -- src/tests.rt:82:1
 returns-6 : tie.Need-returns-6
-returns-6 c = search needs
+returns-6 c = ?
 
 pub writing-spec : {M : Type 1} → statement M
 writing-spec =

@@ -23,7 +23,7 @@ first-marker-requires c κs = search needs
 
 -- src/tests.rt:36:1
 returns : tie.Need-returns
-returns c = search needs
+returns c = ?
 
 pub wrong-marker-spec : {M : Type 1} → statement M
 wrong-marker-spec =

@@ -7,7 +7,7 @@ use Rattle.words.proofs.slices.same.Reads as same-reads
 
 -- src/tests.rt:29:13
 slice-aggregate-same : tie.Need-slice-aggregate-same
-slice-aggregate-same c = search needs
+slice-aggregate-same c = ?
 
 -- src/tests.rt:29:25
 slice-aggregate-same-2 : tie.Need-slice-aggregate-same-2
@@ -19,11 +19,11 @@ same-requires c κs = search needs
 
 -- src/tests.rt:30:9
 returns : tie.Need-returns
-returns c = search needs
+returns c = ?
 
 -- src/tests.rt:24:1
 returns-2 : tie.Need-returns-2
-returns-2 c = search needs
+returns-2 c = ?
 
 pub wrong-tag-spec : {M : Type 1} → statement M
 wrong-tag-spec =

@@ -1,3 +1,9 @@
+-- `safe::values::iter` meets its contract: the four bytes that it reads are those of the part.
+use mathlib.Core.Path.{_∙_, sym, ap}
+use denote.Ref.{now}
+use native.Mathlib.Omega.{arith}
+use Rattle.words.specs.Numbers.{numberLow}
+use Rattle.safe.proofs.Slots.{four-from}
 use borrow.Author.Needs.{needs}
 use Rattle.safe.proofs.values.iter.Statement.{statement}
 use Rattle.safe.proofs.values.iter.Tie as tie
@@ -27,7 +33,7 @@ low-requires c κs = search needs
 
 -- src/values.rt:29:1
 returns : tie.Need-returns
-returns c = search needs
+returns c = c .low .ensures ∙ ap numberLow (sym (four-from 36 (now (c .before .before .before .before .before .before .args .file)) (omega (arith, c .before .before .before .before .before .before .pre))))
 
 pub iter-spec : {M : Type 1} → statement M
 iter-spec =

@@ -1,3 +1,6 @@
+-- `safe::values::lay` meets its contract: the copy fills the part that is lent to it.
+use denote.Ref.{now}
+use Rattle.safe.proofs.Slots.{lay-is}
 use borrow.Author.Needs.{needs}
 use Rattle.safe.proofs.values.lay.Statement.{statement}
 use Rattle.safe.proofs.values.lay.Tie as tie
@@ -31,7 +34,7 @@ same-length c = search needs
 
 -- src/values.rt:37:1
 returns : tie.Need-returns
-returns c = search needs
+returns c = let s = c .before .before .before .before .before .before in lay-is (s .args .at) (now (s .args .output)) (now (s .args .part)) _ (s .pre) (c .before .before .copy .ensures)
 
 pub lay-spec : {M : Type 1} → statement M
 lay-spec =

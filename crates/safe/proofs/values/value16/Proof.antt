@@ -1,3 +1,7 @@
+-- `safe::values::value16` meets its contract: the whole value is copied.
+use mathlib.Core.Path.{_∙_}
+use denote.Ref.{now}
+use Rattle.safe.proofs.Slots.{copied-whole}
 use borrow.Author.Needs.{needs}
 use Rattle.safe.proofs.values.value16.Statement.{statement}
 use Rattle.safe.proofs.values.value16.Tie as tie
@@ -15,7 +19,7 @@ copy-requires c κs = search needs
 
 -- src/values.rt:19:1
 returns : tie.Need-returns
-returns c = search needs
+returns c = c .before .copy .ensures ∙ copied-whole 16 (now (c .before .before .before .before .args .s)) (c .before .before .before .before .pre)
 
 pub value16-spec : {M : Type 1} → statement M
 value16-spec = tie.close (tie.spec slice-aggregate-copy copy-requires returns)
