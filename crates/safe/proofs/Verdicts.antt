@@ -15,7 +15,8 @@ use Rattle.body.specs.Decision.{wellFormed, coveredOf, headersOf, recordsOf}
 use Rattle.body.specs.declared.Judged.{Judged}
 use Rattle.body.specs.declared.Judged.the-variants.{Counts, NotWellFormed}
 use Rattle.chain.specs.Opening.{Opening}
-use Rattle.file.specs.Layout.{split, differ, firstMarker}
+use Rattle.sha256.proofs.Pieces.{drop-same}
+use Rattle.file.specs.Layout.{Parts, split, differ, firstMarker}
 use Rattle.file.specs.Refusals.{deciding, refuse-if}
 use Rattle.file.specs.Edition.{Stretched}
 use Rattle.file.specs.Reading.{Report, refused, accepted, workspaceOf, earlyTests, keysOpened, bodyOpened, keyK, keyL, bodyOf, bodyTests, judged, checked, readingOf}
@@ -27,6 +28,7 @@ use Rattle.safe.specs.declared.Refusal.{Refusal}
 use Rattle.safe.specs.declared.Refusal.the-variants.{Length, Passphrase, Room, Tag, Floor, Ceiling, Marker, Check, Body, Block}
 use Rattle.safe.specs.declared.Early.{Early}
 use Rattle.safe.specs.declared.Early.the-variants as Early
+use Rattle.safe.specs.declared.Outcome.the-variants.{Accepted}
 use Rattle.safe.specs.declared.Reading.{Reading}
 use Rattle.safe.specs.declared.wrap.Keys.{Keys}
 
@@ -98,3 +100,86 @@ reads-passed file pass before zeroed ceiling {after = after} {r = r} e f z x =
       answer = ap (λ (y : Report). reported r (y .body)) p ∙ x .answer ∙ sym p;
       memory = x .memory ∙ ap₂ workspaceOf l (sym p);
     }
+
+-- the marker, sought in the rest of the file
+pub marker-from : (file : List ℕ) (n : ℕ) {r : ℕ} → length file ≡ 200 + 16 * n
+    → r ≡ firstMarker (length (take (length file - 152) (drop 152 file)) / 16) (take (length file - 152) (drop 152 file)) → r ≡ firstMarker (n + 3) (drop 152 file)
+marker-from file n h e =
+    let d = length-drop 152 file in
+    let t = take-all (length file - 152) (drop 152 file) (omega arith) in
+    let k : length (take (length file - 152) (drop 152 file)) / 16 ≡ n + 3 = ap (λ (l : List ℕ). length l / 16) t ∙ omega arith in
+    e ∙ ap₂ firstMarker k t
+
+-- the body's verdict is the report
+module _ (K L mac : List ℕ) (c : ℕ) (o : Opening) where
+  abbrev body : List ℕ
+  body = o .done
+
+  verdict-is-no : verdictOf L mac body ≡ NotWellFormed → judged v3 K L mac c o ≡ refused 9 c (o .count)
+  unfolding verdictOf judged bodyTests v3
+  verdict-is-no e = go (wellFormed body) (same (hmacOf L (coveredOf body)) mac) e
+    where
+      go : (a b : Bool) → cond a (cond b (Counts (headersOf body) (recordsOf body)) NotWellFormed) NotWellFormed ≡ NotWellFormed
+          → cond (not a) (refused 9 c (o .count)) (cond (not b) (refused 9 c (o .count)) (accepted v3 K L c o)) ≡ refused 9 c (o .count)
+      go true true e = absurd (let z : _≡_ {A = ℕ} 0 1 = cc in omega arith)
+      go true false e = refl
+      go false b e = refl
+
+  verdict-is-yes : (h n : ℕ) → verdictOf L mac body ≡ Counts h n → (judged v3 K L mac c o ≡ accepted v3 K L c o) × (h ≡ headersOf body) × (n ≡ recordsOf body)
+  unfolding verdictOf judged bodyTests v3
+  verdict-is-yes h n e = go (wellFormed body) (same (hmacOf L (coveredOf body)) mac) e
+    where
+      go : (a b : Bool) → cond a (cond b (Counts (headersOf body) (recordsOf body)) NotWellFormed) NotWellFormed ≡ Counts h n
+          → (cond (not a) (refused 9 c (o .count)) (cond (not b) (refused 9 c (o .count)) (accepted v3 K L c o)) ≡ accepted v3 K L c o) × (h ≡ headersOf body) × (n ≡ recordsOf body)
+      go true true e = (refl, cc, cc)
+      go true false e = absurd (let z : _≡_ {A = ℕ} 0 1 = cc in omega arith)
+      go false b e = absurd (let z : _≡_ {A = ℕ} 0 1 = cc in omega arith)
+
+-- a body judged: the keys and the text that the code holds are those of the definition's states
+module _ (file key : List ℕ) (n c : ℕ) (s : Stretched) (e : s .key ≡ key) (kk : Keys) (u : Unwrapped key (split file .keys) kk) (w : List ℕ) (blocks : ℕ)
+    (x : Decrypted (bodyOpened v3 (kk .k) (split file .iv) n (split file .cipher) (kk .count)) w blocks) where
+  abbrev p : Parts
+  p = split file
+
+  abbrev o : Opening
+  o = bodyOf v3 p s n
+
+  K-is : kk .k ≡ keyK v3 p s
+  K-is = u .k ∙ ap (λ (y : List ℕ). take 32 (keysOpened v3 y (p .keys) .done)) (sym e)
+
+  L-is : kk .l ≡ keyL v3 p s
+  L-is = u .l ∙ ap (λ (y : List ℕ). drop 32 (keysOpened v3 y (p .keys) .done)) (sym e)
+
+  state-is : bodyOpened v3 (kk .k) (p .iv) n (p .cipher) (kk .count) ≡ o
+  state-is =
+      ap₂ (λ (y : List ℕ) (m : ℕ). bodyOpened v3 y (p .iv) n (p .cipher) m) K-is
+      (u .count ∙ ap (λ (y : List ℕ). keysOpened v3 y (p .keys) .count) (sym e))
+
+  text-is : w ≡ o .done
+  text-is = x .text ∙ ap (λ (y : Opening). y .done) state-is
+
+  blocks-are : blocks ≡ o .count
+  blocks-are = x .blocks ∙ ap (λ (y : Opening). y .count) state-is
+
+  module _ (mac body : List ℕ) (m : mac ≡ p .mac) (b : body ≡ w) {j : Judged} (v : j ≡ verdictOf (kk .l) mac body) where
+    verdict-is : verdictOf (keyL v3 p s) (p .mac) (o .done) ≡ j
+    verdict-is = sym (v ∙ ap₂ (λ (y z : List ℕ). verdictOf y mac z) L-is (b ∙ text-is) ∙ ap (λ (y : List ℕ). verdictOf (keyL v3 p s) y (o .done)) m)
+
+    pub judged-no : j ≡ NotWellFormed → {before after : List ℕ} {r : Reading} → reported r [] ≡ refused 9 c blocks → after ≡ zeros (length before)
+        → Reports (judged v3 (keyK v3 p s) (keyL v3 p s) (p .mac) c o) before after r
+    judged-no f a z =
+        refused-reports 9 c (o .count) (verdict-is-no (keyK v3 p s) (keyL v3 p s) (p .mac) c o (verdict-is ∙ f)) (a ∙ ap (refused 9 c) blocks-are) z
+
+    pub judged-yes : (h q : ℕ) → j ≡ Counts h q → {before after : List ℕ} → length w ≤ length before → before ≡ zeros (length before)
+        → after ≡ w ++ drop (length w) before
+        → Reports (judged v3 (keyK v3 p s) (keyL v3 p s) (p .mac) c o) before after (record { outcome = Accepted h q; k = kk .k; l = kk .l; compressions = c; blocks = blocks })
+    unfolding reported accepted v3 workspaceOf
+    judged-yes h q f {before = before} l zs z =
+        let y = verdict-is-yes (keyK v3 p s) (keyL v3 p s) (p .mac) c o h q (verdict-is ∙ f) in
+        let d : drop (length w) before ≡ zeros (length before - length w) = ap (drop (length w)) zs ∙ drop-same 0 (length w) (length before) l in
+        record {
+          answer = ap (reported (record { outcome = Accepted h q; k = kk .k; l = kk .l; compressions = c; blocks = blocks })) (ap (λ (r : Report). r .body) (y .0))
+              ∙ (λ i. record { number = 0; keyK = K-is i; keyL = L-is i; headers = y .1 i; records = y .2 i; compressions = c; blocks = blocks-are i; body = o .done })
+              ∙ sym (y .0);
+          memory = z ∙ ap (λ (t : List ℕ). w ++ t) d ∙ ap (λ (t : List ℕ). t ++ zeros (length before - length t)) (text-is ∙ sym (ap (λ (r : Report). r .body) (y .0)));
+        }

@@ -1,3 +1,7 @@
+-- `safe::open::refused` meets its contract: it is the definition.
+use mathlib.Core.Path.{refl}
+use Rattle.file.specs.Reading.{refused}
+use Rattle.safe.specs.Answers.{reported}
 use borrow.Author.Needs.{needs}
 use Rattle.safe.proofs.open.refused.Statement.{statement}
 use Rattle.safe.proofs.open.refused.Tie as tie
@@ -6,7 +10,8 @@ use Rattle.safe.proofs.open.refused.Lts as lts
 
 -- src/open.rt:29:1
 returns : tie.Need-returns
-returns c = ?
+unfolding reported refused
+returns c = refl
 
 pub refused-spec : {M : Type 1} → statement M
 refused-spec = tie.close (tie.spec returns)

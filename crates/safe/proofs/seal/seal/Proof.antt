@@ -1,3 +1,12 @@
+-- `safe::seal::seal` meets its contract. The invariant of its loop: what is taken in, and what is still covered.
+use mathlib.Core.Path.{_≡_, refl, sym, ap, _∙_}
+use Prim.Native.Nat.{_-_}
+use native.Mathlib.Omega.{arith}
+use lib.ListN.{length}
+use Rattle.fields.specs.Walk.{walkOf}
+use Rattle.fields.specs.declared.Walked.the-variants.{Took}
+use Rattle.body.proofs.Along.{along-else}
+use Rattle.safe.proofs.Sealing.{Sealing, sealing-start, part-inside, sealing-took, sealing-end}
 use borrow.Author.Needs.{needs}
 use Rattle.safe.proofs.seal.seal.Statement.{statement}
 use Rattle.safe.proofs.seal.seal.Tie as tie

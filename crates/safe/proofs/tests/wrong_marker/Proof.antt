@@ -1,3 +1,9 @@
+-- `safe::tests::wrong_marker` meets its contract, by the law of the marker in the rest of the file.
+use mathlib.Core.Path.{ap}
+use mathlib.Core.Bool.{not}
+use Prim.Native.Nat.{ℕ}
+use lib.Dec.{eqb}
+use Rattle.safe.proofs.Verdicts.{marker-from}
 use borrow.Author.Needs.{needs}
 use Rattle.safe.proofs.tests.wrong_marker.Statement.{statement}
 use Rattle.safe.proofs.tests.wrong_marker.Tie as tie
@@ -23,7 +29,7 @@ first-marker-requires c κs = search needs
 
 -- src/tests.rt:36:1
 returns : tie.Need-returns
-returns c = ?
+returns c = ap (λ (m : ℕ). not (eqb m (c .before .before .before .args .n))) (marker-from (c .before .before .before .args .file .now) (c .before .before .before .args .n) (c .before .before .before .pre) (c .first-marker .ensures))
 
 pub wrong-marker-spec : {M : Type 1} → statement M
 wrong-marker-spec =
