@@ -1,5 +1,5 @@
 -- The code's answers are the report's: an early refusal, a failed check, a body that is accepted or not. By the tests that each has passed.
-use Prim.Native.Nat.{ℕ, _+_, _-_, _*_, _/_, _%_, _<_, _≤_}
+use Prim.Native.Nat.{ℕ, _+_, _-_, _*_, _/_, _^_, _<_, _≤_}
 use mathlib.Core.Path.{_≡_, refl, sym, ap, ap₂, _∙_}
 use mathlib.Core.Bool.{Bool, true, false, cond, not}
 use mathlib.Core.List.{List, [], _∷_, _++_}
@@ -11,16 +11,22 @@ use lib.Seq.{take-all}
 use Rattle.words.specs.Numbers.{numberLow}
 use Rattle.words.specs.Slices.{zeros, same}
 use Rattle.sha256.specs.Hmac.{hmacOf}
+use Rattle.stretch.specs.Stretch.{startOf, stepOf, stretchedOf, keyOf}
+use Rattle.stretch.specs.declared.Stretcher.{Stretcher}
 use Rattle.body.specs.Decision.{wellFormed, coveredOf, headersOf, recordsOf}
 use Rattle.body.specs.declared.Judged.{Judged}
 use Rattle.body.specs.declared.Judged.the-variants.{Counts, NotWellFormed}
+use Rattle.chain.specs.Modes.{ecbD}
 use Rattle.chain.specs.Opening.{Opening}
+use Rattle.chain.proofs.StepLaws.{opened-count}
 use Rattle.sha256.proofs.Pieces.{drop-same}
 use Rattle.file.specs.Layout.{Parts, split, differ, firstMarker}
 use Rattle.file.specs.Refusals.{deciding, refuse-if}
 use Rattle.file.specs.Edition.{Stretched}
 use Rattle.file.specs.Reading.{Report, refused, accepted, workspaceOf, earlyTests, keysOpened, bodyOpened, keyK, keyL, bodyOf, bodyTests, judged, checked, readingOf}
-use Rattle.file.proofs.Tables.{by-zero, by-number}
+use borrow.Author.Tests.{ltb-false}
+use Rattle.file.proofs.Tables.{Decided, passes, stops, decide, first-between, by-zero, by-number}
+use Rattle.file.proofs.Accepted.{good-length}
 use Rattle.safe.specs.V3.{v3, stretchedV3}
 use Rattle.safe.specs.Answers.{refusalNumber, earlyNumber, reported}
 use Rattle.safe.specs.Steps.{Unwrapped, Decrypted, verdictOf, Reports}
@@ -183,3 +189,51 @@ module _ (file key : List ℕ) (n c : ℕ) (s : Stretched) (e : s .key ≡ key) 
               ∙ sym (y .0);
           memory = z ∙ ap (λ (t : List ℕ). w ++ t) d ∙ ap (λ (t : List ℕ). t ++ zeros (length before - length t)) (text-is ∙ sym (ap (λ (r : Report). r .body) (y .0)));
         }
+
+-- four blocks of keys
+pub keys-count : (key keys : List ℕ) {kk : Keys} → Unwrapped key keys kk → kk .count ≡ 4
+unfolding keysOpened
+keys-count key keys u = u .count ∙ opened-count (ecbD (v3 .cipher) key) 4 (zeros 16) keys 0
+
+-- the stretcher's states are the edition's
+pub stretched-is : (pass salt : List ℕ) (n : ℕ) {st c : Stretcher} {i : ℕ} → st ≡ stretchedOf i (startOf pass salt) → i ≡ n → c ≡ stepOf st
+    → (keyOf st ≡ stretchedV3 pass salt n .key) × (keyOf c ≡ stretchedV3 pass salt n .check) × (c .count ≡ stretchedV3 pass salt n .count)
+unfolding stretchedV3
+stretched-is pass salt n e f g =
+    let h = e ∙ ap (λ (m : ℕ). stretchedOf m (startOf pass salt)) f in
+    let k = g ∙ ap stepOf h in
+    (ap keyOf h, ap keyOf k, ap (λ (x : Stretcher). x .count) k)
+
+-- the check passed, or not
+module _ (file : List ℕ) (s : Stretched) (n : ℕ) where
+  pub checked-passed : same (s .check) (split file .check) ≡ true
+      → checked v3 (split file) s n ≡ judged v3 (keyK v3 (split file) s) (keyL v3 (split file) s) (split file .mac) (s .count) (bodyOf v3 (split file) s n)
+  unfolding checked
+  checked-passed e = rw e
+
+  pub checked-failed : same (s .check) (split file .check) ≡ false → checked v3 (split file) s n ≡ refused 8 (s .count) 0
+  unfolding checked
+  checked-failed e = rw e
+
+pub reports-as : {x y : Report} {before after : List ℕ} {r : Reading} → y ≡ x → Reports x before after r → Reports y before after r
+reports-as {before = before} {r = r} e p =
+    record {
+      answer = ap (λ (z : Report). reported r (z .body)) e ∙ p .answer ∙ sym e;
+      memory = p .memory ∙ ap (workspaceOf (length before)) (sym e);
+    }
+
+-- what the early tests leave for the opening
+pub passed-sizes : (file pass : List ℕ) (ceiling room : ℕ) {t : Early} → earlyNumber t ≡ tests file pass ceiling room → t ≡ Early.Passed
+    → (length file ≡ 200 + 16 * ((length file - 200) / 16)) × (length file - 200 ≤ room) × (length file < 2 ^ 32)
+unfolding earlyTests
+passed-sizes file pass ceiling room e f =
+    let g : 0 ≡ tests file pass ceiling room = sym (ap earlyNumber f) ∙ e in
+    go (decide (λ (n : ℕ). n) 0 (earlyTests v3 (split file) ((length file - 200) / 16) file pass ceiling room)) g
+  where
+    go : Decided (λ (n : ℕ). n) (earlyTests v3 (split file) ((length file - 200) / 16) file pass ceiling room) 0 → 0 ≡ tests file pass ceiling room
+        → (length file ≡ 200 + 16 * ((length file - 200) / 16)) × (length file - 200 ≤ room) × (length file < 2 ^ 32)
+    go (passes t q) g =
+        let l = good-length (length file) (t .0) in
+        let r = ltb-false room (length file - 200) (t .1 .1 .0) in
+        (omega arith, r, omega arith)
+    go (stops k h q) g = let b = first-between 1 7 k {ts = earlyTests v3 (split file) ((length file - 200) / 16) file pass ceiling room} refl h in absurd (omega arith)

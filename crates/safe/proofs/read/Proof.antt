@@ -1,3 +1,10 @@
+-- `safe::read` meets its contract: the early tests, and then the opening.
+use mathlib.Core.Path.{_≡_, refl, sym, ap, _∙_}
+use native.Mathlib.Omega.{arith}
+use denote.Ref.{now}
+use lib.ListN.{length, length-replicate}
+use Rattle.file.proofs.Accepted.{good-length}
+use Rattle.safe.proofs.Verdicts.{reads-refused, reads-passed, passed-sizes}
 use borrow.Author.Needs.{needs}
 use Rattle.safe.proofs.read.Statement.{statement}
 use Rattle.safe.proofs.read.Tie as tie
@@ -30,7 +37,12 @@ enum-told c = search needs
 
 -- src/lib.rt:67:26
 open-requires : tie.Need-open-requires
-open-requires c κs = ?
+open-requires c κs =
+    let t = c .before .before .before .before .before .before .before .before .before .before .before .args in
+    let z = c .before .before .before .before .before .before .zero .ensures in
+    let l = ap length z ∙ length-replicate (length (now (t .workspace))) 0 in
+    let g = passed-sizes (now (t .file)) (now (t .passphrase)) (t .ceiling) _ (c .before .before .before .reading .ensures) (c .before .enum-told .given .1) in
+    (g .0, omega (arith, g .1, l), g .2, z ∙ ap (λ n. _) (sym l))
 
 -- src/lib.rt:60:1
 same-length : tie.Need-same-length
@@ -38,7 +50,9 @@ same-length c = search needs
 
 -- src/lib.rt:60:1
 returns : tie.Need-returns
-returns c = ?
+returns c =
+    let t = c .before .before .before .before .before .before .before .before .before .before .before .before .args in
+    reads-refused (now (t .file)) (now (t .passphrase)) (now (t .workspace)) (t .ceiling) _ (c .before .before .before .before .reading .ensures) (c .before .before .t .given .1) (c .refused .ensures) (c .before .before .before .before .before .before .before .zero .ensures)
 
 -- src/lib.rt:60:1
 same-length-2 : tie.Need-same-length-2
@@ -46,7 +60,9 @@ same-length-2 c = search needs
 
 -- src/lib.rt:60:1
 returns-2 : tie.Need-returns-2
-returns-2 c = ?
+returns-2 c =
+    let t = c .before .before .before .before .before .before .before .before .before .before .before .before .before .before .args in
+    reads-passed (now (t .file)) (now (t .passphrase)) (now (t .workspace)) _ (t .ceiling) (c .before .before .before .before .before .before .reading .ensures) (c .before .before .before .before .enum-told .given .1) (c .before .before .before .before .before .before .before .before .before .zero .ensures) (c .before .before .«open» .ensures)
 
 pub read-spec : {M : Type 1} → statement M
 read-spec =

@@ -19,10 +19,10 @@ use Rattle.sha256.proofs.hmac.start.Reads as hmac-start-reads
 use Rattle.sha256.proofs.hmac.take_in.Reads as take-in-reads
 
 abbrev Inv-loop : tie.InvT-loop
-Inv-loop l body st₀ c₀ st c = ?
+Inv-loop l body st₀ c₀ st c = Sealing l body st c
 
 abbrev μ-loop : tie.MeasureT-loop
-μ-loop l body st₀ c₀ st c = ?
+μ-loop l body st₀ c₀ st c = length body - c .place
 
 -- src/seal.rt:13:9
 start-requires : tie.Need-start-requires Inv-loop μ-loop
@@ -34,7 +34,7 @@ start-requires-2 c κs = search needs
 
 -- src/seal.rt:15:5
 loop-holds : tie.Need-loop-holds Inv-loop μ-loop
-loop-holds c = ?
+loop-holds c = let g = c .before .before .before .before in rw (c .start2 .ensures) (sealing-start (g .args .l .now) (g .args .body .now) (g .pre) (c .before .start .ensures))
 
 -- src/seal.rt:16:37
 walk-requires : tie.Need-walk-requires Inv-loop μ-loop
@@ -46,15 +46,33 @@ enum-known-f c = search needs
 
 -- src/seal.rt:17:13
 returns : tie.Need-returns Inv-loop μ-loop
-returns c = ?
+returns c =
+    let at = c .before .before .before .before .loop in
+    absurd (along-else (c .before .before .before .before .before .before .before .before .before .args .body .now) (at .c) (c .before .walk .result) (c .before .walk .ensures) (at .inv .along) (c .before .before .if1 .taken) (c .match .keys2))
 
 -- src/seal.rt:19:17
 add-a : tie.Need-add-a Inv-loop μ-loop
-add-a c = ?
+add-a c =
+    let g = c .before .before .before .before .before .before .before .before .before .before .before .before .args in
+    let s = g .body .now in
+    let at = c .before .before .before .before .before .before .before .loop in
+    let f = c .before .before .f .given .0 .0 in
+    let next = c .before .before .f .given .0 .1 .0 in
+    let took : walkOf s (at .c) ≡ Took f next = sym (c .before .before .before .before .walk .ensures) ∙ c .before .before .f .given .1 in
+    let i = part-inside (g .l .now) s (at .st) (at .c) (at .inv) f next took in
+    omega (arith, c .before .before .before .before .before .before .before .before .before .before .before .before .good)
 
 -- src/seal.rt:20:17
 add-e : tie.Need-add-e Inv-loop μ-loop
-add-e c = ?
+add-e c =
+    let g = c .before .before .before .before .before .before .before .before .before .before .before .before .before .args in
+    let s = g .body .now in
+    let at = c .before .before .before .before .before .before .before .before .loop in
+    let f = c .before .before .before .f .given .0 .0 in
+    let next = c .before .before .before .f .given .0 .1 .0 in
+    let took : walkOf s (at .c) ≡ Took f next = sym (c .before .before .before .before .before .walk .ensures) ∙ c .before .before .before .f .given .1 in
+    let i = part-inside (g .l .now) s (at .st) (at .c) (at .inv) f next took in
+    omega (arith, c .before .before .before .before .before .before .before .before .before .before .before .before .before .good)
 
 -- src/seal.rt:21:32
 sub-take-in : tie.Need-sub-take-in Inv-loop μ-loop
@@ -66,7 +84,15 @@ part-take-in-start c = search needs
 
 -- src/seal.rt:21:32
 part-take-in-end : tie.Need-part-take-in-end Inv-loop μ-loop
-part-take-in-end c = ?
+part-take-in-end c =
+    let g = c .before .before .before .before .before .before .before .before .before .before .before .before .before .args in
+    let s = g .body .now in
+    let at = c .before .before .before .before .before .before .before .before .loop in
+    let f = c .before .before .before .f .given .0 .0 in
+    let next = c .before .before .before .f .given .0 .1 .0 in
+    let took : walkOf s (at .c) ≡ Took f next = sym (c .before .before .before .before .before .walk .ensures) ∙ c .before .before .before .f .given .1 in
+    let i = part-inside (g .l .now) s (at .st) (at .c) (at .inv) f next took in
+    omega arith
 
 -- src/seal.rt:21:9
 take-in-requires : tie.Need-take-in-requires Inv-loop μ-loop
@@ -74,11 +100,27 @@ take-in-requires c κs = search needs
 
 -- src/seal.rt:15:5
 loop-less : tie.Need-loop-less Inv-loop μ-loop
-loop-less c = ?
+loop-less c =
+    let g = c .before .before .before .before .before .before .before .before .before .before .before .before .before .before .before .args in
+    let s = g .body .now in
+    let at = c .before .before .before .before .before .before .before .before .before .before .loop in
+    let f = c .before .before .before .before .before .f .given .0 .0 in
+    let next = c .before .before .before .before .before .f .given .0 .1 .0 in
+    let took : walkOf s (at .c) ≡ Took f next = sym (c .before .before .before .before .before .before .before .walk .ensures) ∙ c .before .before .before .before .before .f .given .1 in
+    let i = part-inside (g .l .now) s (at .st) (at .c) (at .inv) f next took in
+    omega arith
 
 -- src/seal.rt:15:5
 loop-again : tie.Need-loop-again Inv-loop μ-loop
-loop-again c = ?
+loop-again c =
+    let g = c .before .before .before .before .before .before .before .before .before .before .before .before .before .before .before .args in
+    let s = g .body .now in
+    let at = c .before .before .before .before .before .before .before .before .before .before .loop in
+    let f = c .before .before .before .before .before .f .given .0 .0 in
+    let next = c .before .before .before .before .before .f .given .0 .1 .0 in
+    let took : walkOf s (at .c) ≡ Took f next = sym (c .before .before .before .before .before .before .before .walk .ensures) ∙ c .before .before .before .before .before .f .given .1 in
+    let i = part-inside (g .l .now) s (at .st) (at .c) (at .inv) f next took in
+    sealing-took (g .l .now) s (at .st) (at .c) (at .inv) f next took (c .take-in .ensures)
 
 -- src/seal.rt:24:5
 finish-requires : tie.Need-finish-requires Inv-loop μ-loop
@@ -86,7 +128,7 @@ finish-requires c κs = search needs
 
 -- src/seal.rt:9:1
 returns-2 : tie.Need-returns-2 Inv-loop μ-loop
-returns-2 c = ?
+returns-2 c = let g = c .before .before .before .before .before .before .before .before .args in let at = c .before .before .before .loop in sealing-end (g .l .now) (g .body .now) (at .st) (at .c) (at .inv) (omega arith) (c .finish .ensures)
 
 pub seal-spec : {M : Type 1} → statement M
 seal-spec =
