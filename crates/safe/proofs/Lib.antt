@@ -3,3 +3,5 @@ pub mod Slots
 pub mod Opened
 pub mod Sealing
 pub mod Verdicts
+pub mod Laying
+pub mod Writes

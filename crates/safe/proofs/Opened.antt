@@ -33,9 +33,10 @@ module _ (d : List ℕ → List ℕ → List ℕ) (n : ℕ) (prev l : List ℕ) 
   pub handed : {w : List ℕ} {r : ℕ} → Handed (opened d prev l c) w r → (w ≡ o .done) × (r ≡ o .count)
   handed x =
       let rest : o .rest ≡ [] = opened-rest d n prev l c ∙ drop-of-length-le l {i = 16 * n} (omega arith) in
-      let count : o .count ≡ c + n = opened-count d n prev l c in
-      (x .text ∙ ap (λ (s : Opening). s .done ++ s .rest) opened-is ∙ ap (λ (y : List ℕ). o .done ++ y) rest ∙ append-nil (o .done),
-      x .blocks ∙ ap (λ (s : Opening). s .count % 2 ^ 64) opened-is ∙ mod-eq-of-lt (omega arith))
+      let count : o .count ≡ c + n = opened-count d n prev l c in (
+        x .text ∙ ap (λ (s : Opening). s .done ++ s .rest) opened-is ∙ ap (λ (y : List ℕ). o .done ++ y) rest ∙ append-nil (o .done),
+        x .blocks ∙ ap (λ (s : Opening). s .count % 2 ^ 64) opened-is ∙ mod-eq-of-lt (omega arith),
+      )
 
 -- the two keys
 pub unwrapped : (key keys w : List ℕ) {a b : List ℕ} {r : ℕ} → length keys ≡ 64

@@ -41,8 +41,8 @@ laid pre p r r′ {at = at} h k b e =
     let d : drop (length p) (zeros r) ≡ zeros r′ = drop-same 0 (length p) r (omega arith) ∙ ap zeros z in
     e
     ∙ ap₂ (λ (x y : List ℕ). x ++ (p ++ y))
-      (ap₂ take h b ∙ take-at pre (zeros r) (length pre) refl)
-      (ap₂ (λ (n : ℕ) (l : List ℕ). drop (n + length p) l) h b ∙ drop-append-add pre (zeros r) (length p) ∙ d)
+    (ap₂ take h b ∙ take-at pre (zeros r) (length pre) refl)
+    (ap₂ (λ (n : ℕ) (l : List ℕ). drop (n + length p) l) h b ∙ drop-append-add pre (zeros r) (length p) ∙ d)
     ∙ sym (append-assoc pre p (zeros r′))
 
 -- the part laid by a copy

@@ -6,7 +6,6 @@ mod tests;
 mod values;
 mod wrap;
 
-
 ghost use mathlib.Core.Path.{_≡_};
 ghost use lib.ListN.{length};
 ghost use Rattle.file.specs.Reading.{readingOf};

@@ -32,7 +32,7 @@ pub fn unwrap(key: &[u8; 32], keys: &[u8]) -> Keys
 }
 
 pub fn wrap(key: &[u8; 32], k: &[u8; 32], l: &[u8; 32]) -> [u8; 64]
-    ensures { λ r. ⌜ r ≡ wrapped v3 (now (key .entry)) (now (k .entry)) (now (l .entry)) ⌝ }
+    ensures { λ r. ⌜ (r ≡ wrapped v3 (now (key .entry)) (now (k .entry)) (now (l .entry))) × (length r ≡ 64) ⌝ }
 {
     let mut w = [0u8; 64];
     lay(&mut w, 0, k);

@@ -5,10 +5,7 @@ use Rattle.safe.specs.Answers.{reported}
 use borrow.Author.Needs.{needs}
 use Rattle.safe.proofs.open.refused.Statement.{statement}
 use Rattle.safe.proofs.open.refused.Tie as tie
-use Rattle.safe.proofs.open.refused.Reads as reads
-use Rattle.safe.proofs.open.refused.Lts as lts
 
--- src/open.rt:29:1
 returns : tie.Need-returns
 unfolding reported refused
 returns c = refl
