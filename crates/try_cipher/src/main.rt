@@ -54,7 +54,7 @@ fn table() {
     let mut i: u64 = 1;
     while i < 50 {
         put(b"I=");
-        io::number::print_decimal(1, i);
+        io::print_decimal(1, i);
         put(b" ");
         let cipher = vector(&key, &text);
         let next = next_key(&key, &text);
@@ -74,40 +74,109 @@ fn counted(name: &[u8], m: &[u8], count: u64) {
     put(name);
     hex(m);
     put(b" BLOCKS=");
-    io::number::print_decimal(1, count);
+    io::print_decimal(1, count);
     put(b"\n");
 }
 
-// Four blocks of keys, then four of text, each encrypted and decrypted; the second count goes on from the first.
-fn modes(key: &[u8; 32]) {
-    let iv = [
-        0xF0u8, 0xF1, 0xF2, 0xF3, 0xF4, 0xF5, 0xF6, 0xF7, 0xF8, 0xF9, 0xFA, 0xFB, 0xFC, 0xFD, 0xFE, 0xFF,
-    ];
+// The bytes 0 to 63.
+fn counting() -> [u8; 64] {
     let mut text = [0u8; 64];
     let mut i: u8 = 0;
     while i < 64 {
         text[i as usize] = i;
         i += 1;
     }
-    let mut keys = text;
-    chain::ecb_encrypt(key, &mut keys);
-    memory(b"ECB ", &keys);
-    let four = chain::ecb_decrypt(key, &mut keys, 0);
-    counted(b"BACK ", &keys, four);
+    text
+}
+
+fn ecb(key: &[u8; 32], m: &mut [u8]) -> u64 {
+    chain::ecb_encrypt(key, m);
+    memory(b"ECB ", m);
+    let count = chain::ecb_decrypt(key, m, 0);
+    counted(b"BACK ", m, count);
+    count
+}
+
+// The whole memory is no whole number of blocks: it is refused.
+fn cbc(key: &[u8; 32], iv: &[u8; 16], text: &[u8], m: &mut [u8], count: u64) {
+    chain::cbc_encrypt(key, iv, text, m);
+    memory(b"CBC ", m);
+    let n = text.len();
+    if m.len() < n {
+        return;
+    }
+    let more = chain::cbc_decrypt(key, iv, &mut m[0..n], count);
+    counted(b"BACK ", m, more);
+    let same = chain::cbc_decrypt(key, iv, m, more);
+    counted(b"REFUSED ", m, same);
+}
+
+fn keys(key: &[u8; 32], m: &mut [u8; 64]) -> u64 {
+    ecb(key, m)
+}
+
+// Four blocks in ECB, then four in CBC, whose count goes on from the first.
+fn modes(key: &[u8; 32]) {
+    let iv = [
+        0xF0u8,
+        0xF1,
+        0xF2,
+        0xF3,
+        0xF4,
+        0xF5,
+        0xF6,
+        0xF7,
+        0xF8,
+        0xF9,
+        0xFA,
+        0xFB,
+        0xFC,
+        0xFD,
+        0xFE,
+        0xFF,
+    ];
+    let text = counting();
+    let mut m = text;
+    let four = keys(key, &mut m);
     let mut work = [0xEEu8; 68];
-    chain::cbc_encrypt(key, &iv, &text, &mut work);
-    memory(b"CBC ", &work);
-    let eight = chain::cbc_decrypt(key, &iv, &mut work[..64], four);
-    counted(b"BACK ", &work, eight);
-    let same = chain::cbc_decrypt(key, &iv, &mut work, eight);
-    counted(b"REFUSED ", &work, same);
+    cbc(key, &iv, &text, &mut work, four);
 }
 
 fn main() {
     table();
     let key = [
-        0x01u8, 0x23, 0x45, 0x67, 0x89, 0xAB, 0xCD, 0xEF, 0xFE, 0xDC, 0xBA, 0x98, 0x76, 0x54, 0x32, 0x10, 0x00, 0x11, 0x22, 0x33,
-        0x44, 0x55, 0x66, 0x77, 0x88, 0x99, 0xAA, 0xBB, 0xCC, 0xDD, 0xEE, 0xFF,
+        0x01u8,
+        0x23,
+        0x45,
+        0x67,
+        0x89,
+        0xAB,
+        0xCD,
+        0xEF,
+        0xFE,
+        0xDC,
+        0xBA,
+        0x98,
+        0x76,
+        0x54,
+        0x32,
+        0x10,
+        0x00,
+        0x11,
+        0x22,
+        0x33,
+        0x44,
+        0x55,
+        0x66,
+        0x77,
+        0x88,
+        0x99,
+        0xAA,
+        0xBB,
+        0xCC,
+        0xDD,
+        0xEE,
+        0xFF,
     ];
     let text = [0u8; 16];
     vector(&key, &text);
