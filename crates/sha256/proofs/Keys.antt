@@ -10,7 +10,7 @@ use lib.Dec.{ltb}
 use borrow.Author.Tests.{le-ltb, lt-ltb, ltb-false}
 use lib.Bits.{bitXor}
 use lib.ListN.{length, getD, take, drop, set, replicate, length-map, length-append, length-replicate, drop-of-length-le, List·getD-map}
-use lib.Seq.{paste, paste-suc, length-paste, take-all, length-take-le, getD-append-add, getD-drop}
+use lib.Seq.{paste, paste-zero, paste-suc, length-paste, take-all, length-take-le, getD-append-add, getD-drop}
 use Rattle.words.specs.Slices.{zeros, copied}
 use Rattle.sha256.specs.declared.Vars.{Vars}
 use Rattle.sha256.specs.declared.Running.{Running}
@@ -25,6 +25,9 @@ use Rattle.sha256.proofs.Pieces.{drop-same, same, state as runState}
 -- x in each of the first i bytes
 abbrev pub done : ℕ → List ℕ → ℕ → List ℕ
 done x b i = paste b 0 (map (λ (a : ℕ). bitXor a x) b) i
+
+pub none-done : (x : ℕ) (b : List ℕ) → b ≡ done x b 0
+none-done x b = paste-zero b 0 (map (λ (a : ℕ). bitXor a x) b)
 
 pub more : (x : ℕ) (b p : List ℕ) (i : ℕ) → i < length b → p ≡ done x b i → set p i (bitXor (getD p i 0) x) ≡ done x b (i + 1)
 more x b p i l q =

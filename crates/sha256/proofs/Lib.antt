@@ -5,3 +5,4 @@ pub mod Digest
 pub mod Pieces
 pub mod Padding
 pub mod Keys
+pub mod Padded

@@ -8,7 +8,7 @@ use lib.Seq.{take-at, length-take-le}
 use Rattle.words.specs.Numbers.{byteOf, bytesHigh}
 use Rattle.words.proofs.NumberLaws.{eight-high, bytes-mod-high}
 use Rattle.sha256.specs.declared.Vars.{Vars}
-use Rattle.sha256.specs.Sha256.{zerosAfter, padded, hashOf}
+use Rattle.sha256.specs.Sha256.{zerosAfter, padding, hashOf}
 use Rattle.sha256.specs.declared.Running.{Running}
 use Rattle.sha256.specs.Running.{runningOf, Takes}
 use Rattle.sha256.proofs.Pieces.{len-is}
@@ -43,7 +43,7 @@ pub marks : (n : ℕ) → 1 + zerosAfter n ≡ length (mark (zerosAfter n))
 marks n = sym (length-take-le (1 + zerosAfter n) (set (replicate 64 0) 0 128) (omega arith))
 
 pub ended : (m l : List ℕ) {st a b : Running} → st ≡ runningOf m → l ≡ bytesHigh 8 (8 * st .len) → Takes st (mark (zerosAfter (st .len))) a → Takes a l b → b .v ≡ hashOf m
-unfolding hashOf runningOf padded
+unfolding hashOf runningOf padding
 ended m l {st} {a} {b} e k f g =
     let n : st .len ≡ length m % 2 ^ 64 = len-is m [] e in
     let z : zerosAfter (st .len) ≡ zerosAfter (length m) = omega arith in

@@ -19,7 +19,7 @@ unfolding wordOf
 word-front a b h =
     cc (List·getD-append a b 0 0 (omega arith), List·getD-append a b 0 1 (omega arith), List·getD-append a b 0 2 (omega arith), List·getD-append a b 0 3 (omega arith))
 
-words-front : (n : ℕ) (a b : List ℕ) → 4 * n ≤ length a → wordsOf n (a ++ b) ≡ wordsOf n a
+pub words-front : (n : ℕ) (a b : List ℕ) → 4 * n ≤ length a → wordsOf n (a ++ b) ≡ wordsOf n a
 unfolding wordsOf
 words-front zero a b h = refl
 words-front (suc n) a b h =

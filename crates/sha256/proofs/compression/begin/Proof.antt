@@ -4,10 +4,7 @@ use Rattle.sha256.specs.Sha256.{initial}
 use borrow.Author.Needs.{needs}
 use Rattle.sha256.proofs.compression.begin.Statement.{statement}
 use Rattle.sha256.proofs.compression.begin.Tie as tie
-use Rattle.sha256.proofs.compression.begin.Reads as reads
-use Rattle.sha256.proofs.compression.begin.Lts as lts
 
--- src/compression.rt:18:1
 returns : tie.Need-returns
 unfolding initial
 returns c = refl

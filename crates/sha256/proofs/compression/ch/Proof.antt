@@ -5,10 +5,7 @@ use Rattle.sha256.proofs.Bitwise.{choice}
 use borrow.Author.Needs.{needs}
 use Rattle.sha256.proofs.compression.ch.Statement.{statement}
 use Rattle.sha256.proofs.compression.ch.Tie as tie
-use Rattle.sha256.proofs.compression.ch.Reads as reads
-use Rattle.sha256.proofs.compression.ch.Lts as lts
 
--- src/compression.rt:39:1
 returns : tie.Need-returns
 returns c = choice 32 (c .args .x) ((2 ^ 32 - 1) - c .args .x) (c .args .y) (c .args .z) (omega arith) (c .fits .y .fits) (c .fits .z .fits)
 

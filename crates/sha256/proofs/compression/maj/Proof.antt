@@ -3,10 +3,7 @@ use Rattle.sha256.proofs.Bitwise.{majority}
 use borrow.Author.Needs.{needs}
 use Rattle.sha256.proofs.compression.maj.Statement.{statement}
 use Rattle.sha256.proofs.compression.maj.Tie as tie
-use Rattle.sha256.proofs.compression.maj.Reads as reads
-use Rattle.sha256.proofs.compression.maj.Lts as lts
 
--- src/compression.rt:45:1
 returns : tie.Need-returns
 returns c = majority 32 (c .args .x) (c .args .y) (c .args .z) (c .fits .x .fits) (c .fits .y .fits) (c .fits .z .fits)
 

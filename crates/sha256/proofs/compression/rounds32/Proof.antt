@@ -5,22 +5,10 @@ use Rattle.sha256.specs.Steps.{quarter}
 use borrow.Author.Needs.{needs}
 use Rattle.sha256.proofs.compression.rounds32.Statement.{statement}
 use Rattle.sha256.proofs.compression.rounds32.Tie as tie
-use Rattle.sha256.proofs.compression.rounds32.Reads as reads
-use Rattle.sha256.proofs.compression.rounds32.Lts as lts
-use Rattle.sha256.proofs.compression.eight.Reads as eight-reads
 
--- src/compression.rt:225:9
-eight-requires : tie.Need-eight-requires
-eight-requires c κs = search needs
-
--- src/compression.rt:236:5
-eight-requires-2 : tie.Need-eight-requires-2
-eight-requires-2 c κs = search needs
-
--- src/compression.rt:222:1
 returns : tie.Need-returns
 unfolding ks quarter
 returns c = steps-more _ _ (c .before .before .args .x) (c .before .eight .ensures) (c .eight2 .ensures)
 
 pub rounds32-spec : {M : Type 1} → statement M
-rounds32-spec = tie.close (tie.spec eight-requires eight-requires-2 returns)
+rounds32-spec = tie.close (tie.spec (λ c κs. search needs) (λ c κs. search needs) returns)

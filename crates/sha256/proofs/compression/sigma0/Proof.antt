@@ -2,26 +2,9 @@
 use borrow.Author.Needs.{needs}
 use Rattle.sha256.proofs.compression.sigma0.Statement.{statement}
 use Rattle.sha256.proofs.compression.sigma0.Tie as tie
-use Rattle.sha256.proofs.compression.sigma0.Reads as reads
-use Rattle.sha256.proofs.compression.sigma0.Lts as lts
-use Rattle.sha256.proofs.compression.three.Reads as three-reads
-use Rattle.words.proofs.rotation.right.Reads as right-reads
 
--- src/compression.rt:72:11
-right-requires : tie.Need-right-requires
-right-requires c κs = search needs
-
--- src/compression.rt:72:24
-right-requires-2 : tie.Need-right-requires-2
-right-requires-2 c κs = search needs
-
--- src/compression.rt:72:5
-three-requires : tie.Need-three-requires
-three-requires c κs = search needs
-
--- src/compression.rt:69:1
 returns : tie.Need-returns
 returns c = cc
 
 pub sigma0-spec : {M : Type 1} → statement M
-sigma0-spec = tie.close (tie.spec right-requires right-requires-2 three-requires returns)
+sigma0-spec = tie.close (tie.spec (λ c κs. search needs) (λ c κs. search needs) (λ c κs. search needs) returns)

@@ -4,10 +4,7 @@ use Rattle.sha256.specs.Sha256.{three}
 use borrow.Author.Needs.{needs}
 use Rattle.sha256.proofs.compression.three.Statement.{statement}
 use Rattle.sha256.proofs.compression.three.Tie as tie
-use Rattle.sha256.proofs.compression.three.Reads as reads
-use Rattle.sha256.proofs.compression.three.Lts as lts
 
--- src/compression.rt:51:1
 returns : tie.Need-returns
 unfolding three
 returns c = refl

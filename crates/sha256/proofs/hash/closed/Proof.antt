@@ -10,9 +10,11 @@ use Rattle.sha256.proofs.hash.closed.Tie as tie
 
 returns : tie.Need-returns
 returns c =
-    let s = c .before .before .before .before .before .before .before .before .before .before in
-    (omega arith, λ m e. finishes m (now (s .args .s)) e (s .pre) (c .wrapping-add-u64 .ensures) (c .before .before .before .before .fill .ensures)
-    (c .before .compress .ensures ∙ ap (compressOf _) (c .before .before .block .ensures)))
+    let s = c .before .before .before .before .before .before .before .before .before .before in (
+      omega arith,
+      λ m e. finishes m (now (s .args .s)) e (s .pre) (c .wrapping-add-u64 .ensures) (c .before .before .before .before .fill .ensures)
+          (c .before .compress .ensures ∙ ap (compressOf _) (c .before .before .block .ensures)),
+    )
 
 pub closed-spec : {M : Type 1} → statement M
 closed-spec =

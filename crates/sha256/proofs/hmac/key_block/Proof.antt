@@ -1,52 +1,30 @@
+-- `sha256::hmac::key_block` meets its contract, by the law of a key over zeros.
+use mathlib.Core.Path.{_∙_, ap}
+use denote.Ref.{now}
+use Rattle.words.specs.Slices.{zeros, copied}
+use Rattle.sha256.proofs.Keys.{short-block, long-block}
 use borrow.Author.Needs.{needs}
 use Rattle.sha256.proofs.hmac.key_block.Statement.{statement}
 use Rattle.sha256.proofs.hmac.key_block.Tie as tie
-use Rattle.sha256.proofs.hmac.key_block.Reads as reads
-use Rattle.sha256.proofs.hmac.key_block.Lts as lts
-use Rattle.sha256.proofs.hash.hash.Reads as hash-reads
-use Rattle.words.proofs.slices.copy.Reads as copy-reads
 
--- src/hmac.rt:17:14
-slice-aggregate-copy : tie.Need-slice-aggregate-copy
-slice-aggregate-copy c = search needs
-
--- src/hmac.rt:17:9
-copy-requires : tie.Need-copy-requires
-copy-requires c κs = search needs
-
--- src/hmac.rt:18:9
 returns : tie.Need-returns
-returns c = search needs
+returns c = c .before .copy .ensures ∙ short-block (now (c .before .before .before .before .before .args .key)) (c .before .before .before .if1 .taken)
 
--- src/hmac.rt:20:13
-hash-requires : tie.Need-hash-requires
-hash-requires c κs = search needs
-
--- src/hmac.rt:21:10
-slice-aggregate-copy-2 : tie.Need-slice-aggregate-copy-2
-slice-aggregate-copy-2 c = search needs
-
--- src/hmac.rt:21:18
-slice-aggregate-copy-3 : tie.Need-slice-aggregate-copy-3
-slice-aggregate-copy-3 c = search needs
-
--- src/hmac.rt:21:5
-copy-requires-2 : tie.Need-copy-requires-2
-copy-requires-2 c κs = search needs
-
--- src/hmac.rt:12:1
 returns-2 : tie.Need-returns-2
-returns-2 c = search needs
+returns-2 c =
+    c .before .copy2 .ensures
+    ∙ ap (copied (zeros 64)) (c .before .before .before .before .hash .ensures)
+    ∙ long-block (now (c .before .before .before .before .before .before .before .args .key)) (c .before .before .before .before .before .if1 .left)
 
 pub key-block-spec : {M : Type 1} → statement M
 key-block-spec =
     tie.close
     (tie.spec
-    slice-aggregate-copy
-    copy-requires
+    (λ c. search needs)
+    (λ c κs. search needs)
     returns
-    hash-requires
-    slice-aggregate-copy-2
-    slice-aggregate-copy-3
-    copy-requires-2
+    (λ c κs. search needs)
+    (λ c. search needs)
+    (λ c. search needs)
+    (λ c κs. search needs)
     returns-2)

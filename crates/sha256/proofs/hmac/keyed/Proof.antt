@@ -1,47 +1,37 @@
+-- `sha256::hmac::keyed` meets its contract. The invariant of its loop: x in the bytes passed.
+use mathlib.Core.Path.{_≡_, ap, _∙_}
+use Prim.Native.Nat.{_≤_, _-_, _+_}
+use native.Mathlib.Omega.{arith}
+use lib.ListN.{length}
+use Rattle.sha256.specs.Hmac.{keyBlock}
+use Rattle.sha256.proofs.Keys.{done, none-done, more, done-length, length-block, keyed-done}
 use borrow.Author.Needs.{needs}
 use Rattle.sha256.proofs.hmac.keyed.Statement.{statement}
 use Rattle.sha256.proofs.hmac.keyed.Tie as tie
-use Rattle.sha256.proofs.hmac.keyed.Reads as reads
-use Rattle.sha256.proofs.hmac.keyed.Lts as lts
-use Rattle.sha256.proofs.hmac.key_block.Reads as key-block-reads
 
 abbrev Inv-loop : tie.InvT-loop
-Inv-loop key x p₀ i₀ p i = ?
+Inv-loop key x p₀ i₀ p i = (i ≤ 64) × (length p ≡ 64) × (p ≡ done x (keyBlock key) i)
 
 abbrev μ-loop : tie.MeasureT-loop
-μ-loop key x p₀ i₀ p i = ?
+μ-loop key x p₀ i₀ p i = 64 - i
 
--- src/hmac.rt:29:17
-key-block-requires : tie.Need-key-block-requires Inv-loop μ-loop
-key-block-requires c κs = search needs
-
--- src/hmac.rt:31:5
 loop-holds : tie.Need-loop-holds Inv-loop μ-loop
-loop-holds c = search needs
+loop-holds c =
+    let k = c .before .before .args .key .now in
+    (search needs, ap length (c .key-block .ensures) ∙ length-block k, c .key-block .ensures ∙ none-done (c .before .before .args .x) (keyBlock k))
 
--- src/hmac.rt:32:16
-array-read-p : tie.Need-array-read-p Inv-loop μ-loop
-array-read-p c = search needs
-
--- src/hmac.rt:32:9
-array-write-p : tie.Need-array-write-p Inv-loop μ-loop
-array-write-p c = search needs
-
--- src/hmac.rt:33:9
-add-i : tie.Need-add-i Inv-loop μ-loop
-add-i c = search needs
-
--- src/hmac.rt:31:5
-loop-less : tie.Need-loop-less Inv-loop μ-loop
-loop-less c = search needs
-
--- src/hmac.rt:31:5
 loop-again : tie.Need-loop-again Inv-loop μ-loop
-loop-again c = search needs
+loop-again c =
+    let a = c .before .before .before .before .args in
+    let i = c .before .loop .i in
+    let l = length-block (a .key .now) in
+    let m = more (a .x) (keyBlock (a .key .now)) _ i (omega arith) (c .before .loop .inv .2) in
+    (search needs, ap length m ∙ done-length (a .x) (keyBlock (a .key .now)) (i + 1) (omega arith) ∙ l, m)
 
--- src/hmac.rt:26:1
 returns : tie.Need-returns Inv-loop μ-loop
-returns c = search needs
+returns c =
+    let a = c .before .before .before .before .args in
+    c .before .loop .inv .2 ∙ keyed-done (a .x) (a .key .now) (c .before .loop .i) (omega arith)
 
 pub keyed-spec : {M : Type 1} → statement M
 keyed-spec =
@@ -49,11 +39,11 @@ keyed-spec =
     (tie.spec
     Inv-loop
     μ-loop
-    key-block-requires
+    (λ c κs. search needs)
     loop-holds
-    array-read-p
-    array-write-p
-    add-i
-    loop-less
+    (λ c. search needs)
+    (λ c. search needs)
+    (λ c. search needs)
+    (λ c. search needs)
     loop-again
     returns)
