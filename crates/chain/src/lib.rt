@@ -37,7 +37,7 @@ pub fn cbc_decrypt(key: &[u8; 32], iv: &[u8; 16], work: &mut [u8], count: u64) -
     decipher(Mode::Cbc, key, iv, work, count)
 }
 
-// `from`, encrypted into the start of `to`.
+// `from`, encrypted into the start of `to`; a `to` that is too short stays as it was.
 pub fn cbc_encrypt(key: &[u8; 32], iv: &[u8; 16], from: &[u8], to: &mut [u8])
     ensures { λ _. ⌜ now (to .exit) ≡ sealedInto (cbcE twofishCipher (now (key .entry))) (now (iv .entry)) (now (from .entry)) (now (to .entry)) ⌝ }
 {

@@ -5,18 +5,18 @@ use Rattle.words.specs.Rotation.{rotateRight}
 use Rattle.twofish.specs.Field.{_⊕_}
 use Rattle.twofish.specs.Table.{at, table}
 
--- the second half byte of each of the two mixings
-abbrev pub mixed : ℕ → ℕ → ℕ
-mixed a b = a ⊕ rotateRight 4 1 b ⊕ 8 * a % 16
-
--- the permutation of the tables t0 to t3
+-- the permutation of the tables t0 to t3: the half bytes a and b of x, mixed and looked up twice
 abbrev pub rule : List ℕ → List ℕ → List ℕ → List ℕ → ℕ → ℕ
 rule t0 t1 t2 t3 x =
     let a0 = x / 16 in
     let b0 = x % 16 in
-    let a2 = at t0 (a0 ⊕ b0) in
-    let b2 = at t1 (mixed a0 b0) in
-    16 * at t3 (mixed a2 b2) + at t2 (a2 ⊕ b2)
+    let a1 = a0 ⊕ b0 in
+    let b1 = a0 ⊕ rotateRight 4 1 b0 ⊕ 8 * a0 % 16 in
+    let a2 = at t0 a1 in
+    let b2 = at t1 b1 in
+    let a3 = a2 ⊕ b2 in
+    let b3 = a2 ⊕ rotateRight 4 1 b2 ⊕ 8 * a2 % 16 in
+    16 * at t3 b3 + at t2 a3
 
 unfoldable pub rule0 : ℕ → ℕ
 rule0 =
@@ -34,7 +34,7 @@ rule1 =
     (0x4 ∷ 0xC ∷ 0x7 ∷ 0x5 ∷ 0x1 ∷ 0x6 ∷ 0x9 ∷ 0xA ∷ 0x0 ∷ 0xE ∷ 0xD ∷ 0x8 ∷ 0x2 ∷ 0xB ∷ 0x3 ∷ 0xF ∷ [])
     (0xB ∷ 0x9 ∷ 0x5 ∷ 0x1 ∷ 0xC ∷ 0x3 ∷ 0xD ∷ 0xE ∷ 0x6 ∷ 0x4 ∷ 0x7 ∷ 0xF ∷ 0x2 ∷ 0x0 ∷ 0x8 ∷ 0xA ∷ [])
 
--- the full tables of 256 bytes
+-- the full tables of 256 bytes, of which each entry follows the rule
 unfoldable pub table0 : List ℕ
 table0 = table 256 rule0
 

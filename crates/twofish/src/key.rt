@@ -8,10 +8,10 @@ use words::numbers::byte;
 use words::rotation::left;
 ghost use mathlib.Core.Path.{_≡_};
 ghost use mathlib.Core.List.{[], _∷_};
-ghost use Prim.Native.Nat.{_+_, _*_, _%_, _^_, _<_};
+ghost use Prim.Native.Nat.{_+_, _*_, _/_, _%_, _^_, _<_};
 ghost use Rattle.twofish.specs.Field.{dot, product};
 ghost use Rattle.twofish.specs.Table.{at, table};
-ghost use Rattle.twofish.specs.Key.{y0 as y0Of, y1 as y1Of, y2 as y2Of, y3 as y3Of, h as hOf, evens as evensOf, odds as oddsOf, RS, eight, boxKey, wordA, wordB, subkeys as subkeysOf};
+ghost use Rattle.twofish.specs.Key.{y0 as y0Of, y1 as y1Of, y2 as y2Of, y3 as y3Of, h as hOf, RS, eight, boxKey, wordA, wordB, subkeys as subkeysOf};
 
 fn sub(t: &[u8; 256], x: u8) -> u8
     ensures { λ r. ⌜ r ≡ at (now (t .entry)) x ⌝ }
@@ -121,50 +121,18 @@ pub fn box_key(m: &[u8; 32]) -> [u8; 16]
     ]
 }
 
-fn evens(m: &[u8; 32]) -> [u8; 16]
-    ensures { λ r. ⌜ r ≡ evensOf (now (m .entry)) ⌝ }
+// Every other word of the key, as bytes, from byte `from` on.
+fn every_other(m: &[u8; 32], from: usize) -> [u8; 16]
+    requires { ⌜ from < 5 ⌝ }
+    ensures { λ r. ⌜ r ≡ table 16 (λ k. at (now (m .entry)) (8 * (k / 4) + k % 4 + from)) ⌝ }
 {
-    [
-        m[0],
-        m[1],
-        m[2],
-        m[3],
-        m[8],
-        m[9],
-        m[10],
-        m[11],
-        m[16],
-        m[17],
-        m[18],
-        m[19],
-        m[24],
-        m[25],
-        m[26],
-        m[27],
-    ]
-}
-
-fn odds(m: &[u8; 32]) -> [u8; 16]
-    ensures { λ r. ⌜ r ≡ oddsOf (now (m .entry)) ⌝ }
-{
-    [
-        m[4],
-        m[5],
-        m[6],
-        m[7],
-        m[12],
-        m[13],
-        m[14],
-        m[15],
-        m[20],
-        m[21],
-        m[22],
-        m[23],
-        m[28],
-        m[29],
-        m[30],
-        m[31],
-    ]
+    let mut l = [0u8; 16];
+    let mut k: usize = 0;
+    while k < 16 {
+        l[k] = m[8 * (k / 4) + k % 4 + from];
+        k += 1;
+    }
+    l
 }
 
 fn word_a(t0: &[u8; 256], t1: &[u8; 256], e: &[u8; 16], i: u32) -> u32
@@ -198,8 +166,8 @@ pub fn sum_twice(a: u32, b: u32, k: u32) -> u32
 pub fn subkeys(t0: &[u8; 256], t1: &[u8; 256], m: &[u8; 32]) -> [u32; 40]
     ensures { λ r. ⌜ r ≡ subkeysOf (at (now (t0 .entry))) (at (now (t1 .entry))) (now (m .entry)) ⌝ }
 {
-    let e = evens(m);
-    let o = odds(m);
+    let e = every_other(m, 0);
+    let o = every_other(m, 4);
     let mut k = [0u32; 40];
     let mut i: u32 = 0;
     while i < 20 {

@@ -1,6 +1,6 @@
 -- `subkeys`: after i turns the first 2 i places hold the definition's subkeys.
 use Rattle.twofish.specs.Table.{at, table}
-use Rattle.twofish.specs.Key.{subkey, subkeys}
+use Rattle.twofish.specs.Key.{evens, odds, subkey, subkeys}
 use Rattle.twofish.proofs.Listed.{more, is-table}
 use Rattle.twofish.proofs.Pairs.{even, odd}
 use mathlib.Core.Path.{_≡_, refl, ap₂, _∙_}
@@ -28,8 +28,8 @@ loop-again c =
     let l = c .before .before .before .before .before .before .before .before .loop in
     let p = at (a .t0 .now) in
     let q = at (a .t1 .now) in
-    let e = c .before .before .before .before .before .before .before .before .before .before .evens .result in
-    let o = c .before .before .before .before .before .before .before .before .before .odds .result in
+    let e = c .before .before .before .before .before .before .before .before .before .before .every-other .result in
+    let o = c .before .before .before .before .before .before .before .before .before .every-other2 .result in
     let f = subkey p q e o in
     let v = c .before .before .sum .result in
     let w = c .left .result in
@@ -43,14 +43,14 @@ loop-again c =
     )
 
 returns : tie.Need-returns Inv-loop μ-loop
-unfolding subkeys
+unfolding subkeys evens odds
 returns c =
     let a = c .before .before .before .before .args in
     let l = c .before .loop in
     let p = at (a .t0 .now) in
     let q = at (a .t1 .now) in
-    let e = c .before .before .before .evens in
-    let o = c .before .before .odds in
+    let e = c .before .before .before .every-other in
+    let o = c .before .before .every-other2 in
     is-table 40 (subkey p q (e .result) (o .result)) (l .k) (l .inv .1) (λ j h. l .inv .2 j (omega arith))
     ∙ ap₂ (λ (u v : List ℕ). table 40 (subkey p q u v)) (e .ensures) (o .ensures)
 

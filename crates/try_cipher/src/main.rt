@@ -1,0 +1,184 @@
+// The Twofish paper's vectors for keys of 256 bits, and both modes, printed. BACK is what decryption makes of CT.
+use twofish::blocks::decrypt_block;
+use twofish::blocks::encrypt_block;
+
+fn put(s: &[u8]) {
+    io::write_all(1, s);
+}
+
+fn digit(x: u8) -> u8 {
+    let d = x % 16;
+    if d < 10 { 48 + d } else { 55 + d }
+}
+
+fn hex(s: &[u8]) {
+    let mut i: usize = 0;
+    while i < s.len() {
+        let b = s[i];
+        let two = [digit(b / 16), digit(b)];
+        put(&two);
+        i += 1;
+    }
+}
+
+fn vector(key: &[u8; 32], text: &[u8; 16]) -> [u8; 16] {
+    let cipher = encrypt_block(key, text);
+    let back = decrypt_block(key, &cipher);
+    put(b"KEY=");
+    hex(key);
+    put(b" PT=");
+    hex(text);
+    put(b" CT=");
+    hex(&cipher);
+    put(b" BACK=");
+    hex(&back);
+    put(b"\n");
+    cipher
+}
+
+// The next key of the table: the text, then the first half of the key.
+fn next_key(key: &[u8; 32], text: &[u8; 16]) -> [u8; 32] {
+    let mut next = [0u8; 32];
+    let mut i: usize = 0;
+    while i < 16 {
+        next[i] = text[i];
+        next[16 + i] = key[i];
+        i += 1;
+    }
+    next
+}
+
+fn table() {
+    let mut key = [0u8; 32];
+    let mut text = [0u8; 16];
+    let mut i: u64 = 1;
+    while i < 50 {
+        put(b"I=");
+        io::print_decimal(1, i);
+        put(b" ");
+        let cipher = vector(&key, &text);
+        let next = next_key(&key, &text);
+        key = next;
+        text = cipher;
+        i += 1;
+    }
+}
+
+fn memory(name: &[u8], m: &[u8]) {
+    put(name);
+    hex(m);
+    put(b"\n");
+}
+
+fn counted(name: &[u8], m: &[u8], count: u64) {
+    put(name);
+    hex(m);
+    put(b" BLOCKS=");
+    io::print_decimal(1, count);
+    put(b"\n");
+}
+
+// The bytes 0 to 63.
+fn counting() -> [u8; 64] {
+    let mut text = [0u8; 64];
+    let mut i: u8 = 0;
+    while i < 64 {
+        text[i as usize] = i;
+        i += 1;
+    }
+    text
+}
+
+fn ecb(key: &[u8; 32], m: &mut [u8]) -> u64 {
+    chain::ecb_encrypt(key, m);
+    memory(b"ECB ", m);
+    let count = chain::ecb_decrypt(key, m, 0);
+    counted(b"BACK ", m, count);
+    count
+}
+
+// The whole memory is no whole number of blocks: it is refused.
+fn cbc(key: &[u8; 32], iv: &[u8; 16], text: &[u8], m: &mut [u8], count: u64) {
+    chain::cbc_encrypt(key, iv, text, m);
+    memory(b"CBC ", m);
+    let n = text.len();
+    if m.len() < n {
+        return;
+    }
+    let more = chain::cbc_decrypt(key, iv, &mut m[0..n], count);
+    counted(b"BACK ", m, more);
+    let same = chain::cbc_decrypt(key, iv, m, more);
+    counted(b"REFUSED ", m, same);
+}
+
+fn keys(key: &[u8; 32], m: &mut [u8; 64]) -> u64 {
+    ecb(key, m)
+}
+
+// Four blocks in ECB, then four in CBC, whose count goes on from the first.
+fn modes(key: &[u8; 32]) {
+    let iv = [
+        0xF0u8,
+        0xF1,
+        0xF2,
+        0xF3,
+        0xF4,
+        0xF5,
+        0xF6,
+        0xF7,
+        0xF8,
+        0xF9,
+        0xFA,
+        0xFB,
+        0xFC,
+        0xFD,
+        0xFE,
+        0xFF,
+    ];
+    let text = counting();
+    let mut m = text;
+    let four = keys(key, &mut m);
+    let mut work = [0xEEu8; 68];
+    cbc(key, &iv, &text, &mut work, four);
+}
+
+fn main() {
+    table();
+    let key = [
+        0x01u8,
+        0x23,
+        0x45,
+        0x67,
+        0x89,
+        0xAB,
+        0xCD,
+        0xEF,
+        0xFE,
+        0xDC,
+        0xBA,
+        0x98,
+        0x76,
+        0x54,
+        0x32,
+        0x10,
+        0x00,
+        0x11,
+        0x22,
+        0x33,
+        0x44,
+        0x55,
+        0x66,
+        0x77,
+        0x88,
+        0x99,
+        0xAA,
+        0xBB,
+        0xCC,
+        0xDD,
+        0xEE,
+        0xFF,
+    ];
+    let text = [0u8; 16];
+    vector(&key, &text);
+    modes(&key);
+}
