@@ -20,10 +20,9 @@ use Rattle.fields.specs.declared.Walked.the-variants.{Took}
 use Rattle.fields.proofs.Walked as walked
 use Rattle.fields.proofs.Outcomes.{taken, forward}
 use Rattle.body.specs.Sections.{isEnd}
-use Rattle.body.specs.Decision.{storedAt, fieldsFrom, exactFrom, none, goodHeader, goodRecord}
+use Rattle.body.specs.Decision.{storedAt, fieldsFrom, exactFrom, none}
 use Rattle.body.specs.Tally.{sectionsOf, emptySection, noted, passes, stepped, headerField, recordEnd}
 use Rattle.body.specs.declared.tally.Section.{Section}
-use Rattle.body.specs.declared.Judged.{Judged}
 use Rattle.body.specs.declared.Judged.the-variants.{Counts, NotWellFormed}
 use Rattle.body.proofs.Sums.{Sums, sums-empty, sums-note, sums-passes, sums-fresh}
 use Rattle.body.proofs.Verdict.{verdict, verdict-start, verdict-end, verdict-field, verdict-stop, verdict-broken, verdict-ended}
@@ -53,9 +52,9 @@ module _ (s : List ℕ) (c : Cursor) (x : Section) (h n : ℕ) (t : Stands s c x
       let r = c .«in_record» in
       ⊎-elim
       (λ e. verdict-broken (t .right) r (t .cur) h n (fieldsFrom s (c .place))
-        ∙ ap (λ (b : Bool). verdict (t .right) r (t .cur) h n b (fieldsFrom s (c .place))) (sym (cut-off s (c .place) e l)) ∙ t .rest)
+      ∙ ap (λ (b : Bool). verdict (t .right) r (t .cur) h n b (fieldsFrom s (c .place))) (sym (cut-off s (c .place) e l)) ∙ t .rest)
       (λ e. verdict-ended (t .right) r (t .cur) h n (exactFrom s (c .place)) (storedAt s (c .place)) (fieldsFrom s (c .place + roomOf (lenAt s (c .place)))) (e .1)
-        ∙ ap (verdict (t .right) r (t .cur) h n (exactFrom s (c .place))) (sym (e .0)) ∙ t .rest)
+      ∙ ap (verdict (t .right) r (t .cur) h n (exactFrom s (c .place))) (sym (e .0)) ∙ t .rest)
       (untaken s c w q (t .aligned) o)
 
   -- the end

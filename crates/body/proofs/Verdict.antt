@@ -1,7 +1,7 @@
 -- The verdict on the rest of the fields, given the present section so far, is the verdict on the whole: one field more goes to the section or ends it.
-use Prim.Native.Nat.{ℕ, zero, suc, _+_, _-_, _≤_}
-use mathlib.Core.Path.{_≡_, refl, sym, ap, ap₂, _∙_}
-use mathlib.Core.Bool.{Bool, true, false, cond, not, _&&_}
+use Prim.Native.Nat.{ℕ, suc, _+_, _-_, _≤_}
+use mathlib.Core.Path.{_≡_, refl, ap}
+use mathlib.Core.Bool.{Bool, true, false, cond, _&&_}
 use mathlib.Core.List.{List, [], _∷_, _++_, append-assoc, append-nil}
 use native.Mathlib.Nat.{add-zero, zero-add}
 use native.Mathlib.Omega.{arith}
@@ -10,8 +10,8 @@ use lib.Seq.{length-take-le}
 use Rattle.fields.specs.Stored.{Stored}
 use Rattle.fields.specs.Walk.{endWithData}
 use Rattle.body.specs.Sections.{isEnd, push, runs}
-use Rattle.body.specs.Decision.{fieldsOf, exactFrom, all, endsEmpty, none, goodHeader, goodRecord, goodRuns, headerIn, recordsIn, headersOf, recordsOf}
-use Rattle.body.specs.Tally.{sectionsOf, headerField, recordEnd}
+use Rattle.body.specs.Decision.{fieldsOf, exactFrom, endsEmpty, none, goodHeader, goodRecord, goodRuns, headerIn, recordsIn}
+use Rattle.body.specs.Tally.{sectionsOf}
 use Rattle.body.specs.declared.Judged.{Judged}
 use Rattle.body.specs.declared.Judged.the-variants.{Counts, NotWellFormed}
 
@@ -62,9 +62,11 @@ module _ (b r : Bool) (cur : List Stored) (h n : ℕ) (e : Bool) (f : Stored) (f
       by true true false false t = refl
       by true false m true t = refl
       by true false m false t = refl
+
       zeros : (r : Bool) → h + cond r 0 0 ≡ h + 0
       zeros true = refl
       zeros false = refl
+
       counts : (r : Bool) (l : ℕ) → n + (suc (suc l) - cond r 1 2) ≡ n + cond r 1 0 + (suc l - 1)
       counts true l = omega arith
       counts false l = omega arith

@@ -63,15 +63,25 @@ fn texts(cases: &[u8]) {
 
 fn utf8() {
     say(b"-- UTF8-1 and UTF8-2\n");
-    texts(b"\x01\x7f\x01\x80\x01\xbf\x02\xc0\x80\x02\xc1\xbf\x02\xc2\x7f\x02\xc2\x80\x02\xdf\xbf\x02\xdf\xc0\x01\xc2");
+    texts(
+        b"\x01\x7f\x01\x80\x01\xbf\x02\xc0\x80\x02\xc1\xbf\x02\xc2\x7f\x02\xc2\x80\x02\xdf\xbf\x02\xdf\xc0\x01\xc2",
+    );
     say(b"-- UTF8-3: overlong, surrogates, cut\n");
-    texts(b"\x03\xe0\x9f\xbf\x03\xe0\xa0\x80\x03\xe1\x80\x80\x03\xec\xbf\xbf\x03\xed\x9f\xbf\x03\xed\xa0\x80\x03\xed\xbf\xbf\x03\xee\x80\x80\x03\xef\xbf\xbf");
+    texts(
+        b"\x03\xe0\x9f\xbf\x03\xe0\xa0\x80\x03\xe1\x80\x80\x03\xec\xbf\xbf\x03\xed\x9f\xbf\x03\xed\xa0\x80\x03\xed\xbf\xbf\x03\xee\x80\x80\x03\xef\xbf\xbf",
+    );
     texts(b"\x03\xe1\x7f\x80\x03\xe1\x80\x7f\x03\xe1\x80\xc0\x02\xe2\x82\x01\xe2");
     say(b"-- UTF8-4: overlong, past 10FFFF, cut\n");
-    texts(b"\x04\xf0\x8f\xbf\xbf\x04\xf0\x90\x80\x80\x04\xf1\x80\x80\x80\x04\xf3\xbf\xbf\xbf\x04\xf4\x8f\xbf\xbf\x04\xf4\x90\x80\x80\x04\xf5\x80\x80\x80");
-    texts(b"\x04\xf1\x80\x7f\x80\x04\xf1\x80\x80\xc0\x03\xf0\x9f\x98\x02\xf0\x9f\x01\xf0\x01\xfe\x01\xff");
+    texts(
+        b"\x04\xf0\x8f\xbf\xbf\x04\xf0\x90\x80\x80\x04\xf1\x80\x80\x80\x04\xf3\xbf\xbf\xbf\x04\xf4\x8f\xbf\xbf\x04\xf4\x90\x80\x80\x04\xf5\x80\x80\x80",
+    );
+    texts(
+        b"\x04\xf1\x80\x7f\x80\x04\xf1\x80\x80\xc0\x03\xf0\x9f\x98\x02\xf0\x9f\x01\xf0\x01\xfe\x01\xff",
+    );
     say(b"-- byte order mark, final 00\n");
-    texts(b"\x03\xef\xbb\xbf\x04\xef\xbb\xbfa\x04a\xef\xbb\xbf\x02\xef\xbb\x01\x00\x02a\x00\x02\x00a\x03a\x00b");
+    texts(
+        b"\x03\xef\xbb\xbf\x04\xef\xbb\xbfa\x04a\xef\xbb\xbf\x02\xef\xbb\x01\x00\x02a\x00\x02\x00a\x03a\x00b",
+    );
 }
 
 fn flag(b: bool) {
@@ -239,19 +249,49 @@ fn appending(name: &[u8], place: usize, kind: u8, content: &[u8], fill: &[u8]) {
 
 fn refusals() {
     say(b"-- append to 64 bytes, in the order 11, 13, 12, 3\n");
-    appending(b"place 8, END with data, no fill, no room", 8, 0xff, b"a", b"");
+    appending(
+        b"place 8, END with data, no fill, no room",
+        8,
+        0xff,
+        b"a",
+        b"",
+    );
     appending(b"place 80", 80, 0x05, b"", b"01234567890");
     appending(b"place 64, END with data, no fill", 64, 0xff, b"a", b"");
     appending(b"place 64, no fill", 64, 0x05, b"", b"");
     appending(b"place 64, right fill", 64, 0x05, b"", b"01234567890");
-    appending(b"place 48, one byte of fill too few", 48, 0x05, b"", b"0123456789");
-    appending(b"place 48, one byte of fill too many", 48, 0x05, b"", b"012345678901");
+    appending(
+        b"place 48, one byte of fill too few",
+        48,
+        0x05,
+        b"",
+        b"0123456789",
+    );
+    appending(
+        b"place 48, one byte of fill too many",
+        48,
+        0x05,
+        b"",
+        b"012345678901",
+    );
 }
 
 fn accepted() {
     appending(b"place 48, one block", 48, 0x05, b"", b"01234567890");
-    appending(b"place 48, two blocks", 48, 0x05, b"012345678901", b"012345678901234");
-    appending(b"place 32, two blocks", 32, 0x05, b"012345678901", b"012345678901234");
+    appending(
+        b"place 48, two blocks",
+        48,
+        0x05,
+        b"012345678901",
+        b"012345678901234",
+    );
+    appending(
+        b"place 32, two blocks",
+        32,
+        0x05,
+        b"012345678901",
+        b"012345678901234",
+    );
     appending(b"place 0, END", 0, 0xff, b"", b"01234567890");
 }
 
@@ -314,14 +354,34 @@ fn walks() {
     walking(b"15 bytes", b"\x00\x00\x00\x00\x05fill fill ", 0);
     walking(b"15 bytes, place 15", b"\x00\x00\x00\x00\x05fill fill ", 15);
     walking(b"length 0", b"\x00\x00\x00\x00\x05fill fill f", 0);
-    walking(b"length 11 in one block", b"\x0b\x00\x00\x00\x05eleven data", 0);
+    walking(
+        b"length 11 in one block",
+        b"\x0b\x00\x00\x00\x05eleven data",
+        0,
+    );
 }
 
 fn more_walks() {
-    walking(b"length 12 in one block", b"\x0c\x00\x00\x00\x05eleven data", 0);
-    walking(b"length 65536 in one block", b"\x00\x00\x01\x00\x05eleven data", 0);
-    walking(b"length 4294967295 in a two-block body", b"\xff\xff\xff\xff\x05this is a body of two block", 0);
-    walking(b"length 4294967291 in a two-block body", b"\xfb\xff\xff\xff\x05this is a body of two block", 0);
+    walking(
+        b"length 12 in one block",
+        b"\x0c\x00\x00\x00\x05eleven data",
+        0,
+    );
+    walking(
+        b"length 65536 in one block",
+        b"\x00\x00\x01\x00\x05eleven data",
+        0,
+    );
+    walking(
+        b"length 4294967295 in a two-block body",
+        b"\xff\xff\xff\xff\x05this is a body of two block",
+        0,
+    );
+    walking(
+        b"length 4294967291 in a two-block body",
+        b"\xfb\xff\xff\xff\x05this is a body of two block",
+        0,
+    );
     walking(b"END", b"\x00\x00\x00\x00\xfffill fill f", 0);
     walking(b"END with data", b"\x01\x00\x00\x00\xffdfill fill ", 0);
 }
