@@ -1,15 +1,15 @@
 -- `walk` meets its contract: the early returns are the tests of the definition, and the field and the cursor are made of what stands at the place.
 use Prim.Native.Nat.{ℕ, _+_}
-use lib.ListN.{take, drop}
 use mathlib.Core.Path.{_≡_, _∙_, sym, ap}
 use native.Mathlib.Nat.{add-sub-cancel-left}
+use lib.ListN.{take, drop}
 use Rattle.words.specs.Numbers.{numberLow}
 use Rattle.text.proofs.Tests.{tests}
 use Rattle.fields.specs.Stored.{roomOf}
-use Rattle.fields.specs.Walk.{walkOf, lenAt, kindAt}
 use Rattle.fields.specs.Value.{valueOf}
+use Rattle.fields.specs.Walk.{walkOf, lenAt, kindAt}
 use Rattle.fields.proofs.Places.{four-at}
-use Rattle.fields.proofs.Outcomes.{room-fill, short, ended, took, built}
+use Rattle.fields.proofs.Outcomes.{short, ended, took, built}
 use borrow.Author.Needs.{needs}
 use Rattle.fields.proofs.walk.Statement.{statement}
 use Rattle.fields.proofs.walk.Tie as tie
@@ -35,7 +35,7 @@ returns-5 c =
     let s = c .before .before .before .before .before .before .before .before .before .before .before .before .before .args .body .now in
     let u = c .before .before .before .before .before .before .before .before .before .before .before .before .before .args .c in
     let len : c .before .before .before .low .result ≡ lenAt s (u .place) = c .before .before .before .low .ensures ∙ ap numberLow (sym (four-at s (u .place) (search needs))) in
-    let big : 5 + c .before .before .before .low .result + c .before .fill-for .result ≡ roomOf (lenAt s (u .place)) = ap (_+_ (5 + c .before .before .before .low .result)) (c .before .fill-for .ensures) ∙ room-fill (c .before .before .before .low .result) ∙ ap roomOf len in
+    let big : c .before .room .result ≡ roomOf (lenAt s (u .place)) = c .before .room .ensures ∙ ap roomOf len in
     sym (short s u (search needs) (search needs) (c .before .before .before .before .before .before .before .before .before .if3 .left) (search needs) (rw big at (c .if5 .taken)))
 
 returns-6 : tie.Need-returns-6
@@ -43,7 +43,7 @@ returns-6 c =
     let s = c .before .before .before .before .before .before .before .before .before .before .before .before .before .before .before .args .body .now in
     let u = c .before .before .before .before .before .before .before .before .before .before .before .before .before .before .before .args .c in
     let len : c .before .before .before .before .before .low .result ≡ lenAt s (u .place) = c .before .before .before .before .before .low .ensures ∙ ap numberLow (sym (four-at s (u .place) (search needs))) in
-    let big : 5 + c .before .before .before .before .before .low .result + c .before .before .before .fill-for .result ≡ roomOf (lenAt s (u .place)) = ap (_+_ (5 + c .before .before .before .before .before .low .result)) (c .before .before .before .fill-for .ensures) ∙ room-fill (c .before .before .before .before .before .low .result) ∙ ap roomOf len in
+    let big : c .before .before .before .room .result ≡ roomOf (lenAt s (u .place)) = c .before .before .before .room .ensures ∙ ap roomOf len in
     sym (ended s u (search needs) (search needs) (c .before .before .before .before .before .before .before .before .before .before .before .if3 .left) (search needs) (rw big at (c .before .before .if5 .left)) (rw len at (sym (c .before .end-with-data .ensures) ∙ c .if6 .taken)))
 
 returns-7 : tie.Need-returns-7
@@ -51,7 +51,7 @@ returns-7 c =
     let s = c .before .before .before .before .before .before .before .before .before .before .before .before .before .before .before .before .before .before .args .body .now in
     let u = c .before .before .before .before .before .before .before .before .before .before .before .before .before .before .before .before .before .before .args .c in
     let len : c .before .before .before .before .before .before .before .before .low .result ≡ lenAt s (u .place) = c .before .before .before .before .before .before .before .before .low .ensures ∙ ap numberLow (sym (four-at s (u .place) (search needs))) in
-    let big : 5 + c .before .before .before .before .before .before .before .before .low .result + c .before .before .before .before .before .before .fill-for .result ≡ roomOf (lenAt s (u .place)) = ap (_+_ (5 + c .before .before .before .before .before .before .before .before .low .result)) (c .before .before .before .before .before .before .fill-for .ensures) ∙ room-fill (c .before .before .before .before .before .before .before .before .low .result) ∙ ap roomOf len in
+    let big : c .before .before .before .before .before .before .room .result ≡ roomOf (lenAt s (u .place)) = c .before .before .before .before .before .before .room .ensures ∙ ap roomOf len in
     let t = took s u (search needs) (search needs) (c .before .before .before .before .before .before .before .before .before .before .before .before .before .before .if3 .left) (search needs) (rw big at (c .before .before .before .before .before .if5 .left)) (rw len at (sym (c .before .before .before .before .end-with-data .ensures) ∙ c .before .before .before .if6 .left)) in
     let part = add-sub-cancel-left (u .place + 5) (c .before .before .before .before .before .before .before .before .low .result) ∙ len in
     built s u _ _ _ _ t len big (c .before .value-of .ensures ∙ ap (λ (m : ℕ). valueOf (u .«in_record») (kindAt s (u .place)) (take m (drop (u .place + 5) s))) part) (c .passed .ensures)
@@ -75,9 +75,7 @@ walk-spec =
     (λ c. search needs)
     (λ c. search needs)
     (λ c. search needs)
-    (λ c. search needs)
     (λ c κs. search needs)
-    (λ c. search needs)
     returns-5
     (λ c κs. search needs)
     returns-6
