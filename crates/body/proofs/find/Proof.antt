@@ -6,7 +6,7 @@ use Rattle.body.proofs.find.Statement.{statement}
 use Rattle.body.proofs.find.Tie as tie
 
 seek-requires : tie.Need-seek-requires
-seek-requires c κs = sym (c .before .well-formed .ensures) ∙ c .if1 .taken
+seek-requires c κs = cc
 
 returns : tie.Need-returns
 unfolding findOf
