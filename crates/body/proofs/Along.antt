@@ -1,8 +1,8 @@
 -- The walk and the fields of a body go together, step by step: what the walk takes is the next of the fields, and where it takes none they end or do not reach the end.
 -- These are the laws for a loop over the walk.
-use Prim.Native.Nat.{ℕ, _+_, _-_, _%_, _<_, _≤_}
+use Prim.Native.Nat.{ℕ, _+_, _%_, _<_, _≤_}
 use mathlib.Core.Path.{_≡_, refl, sym, ap, _∙_}
-use mathlib.Core.Bool.{Bool, true, false, cond, not, _&&_, false≢true, true≢false}
+use mathlib.Core.Bool.{Bool, true, false, not, false≢true, true≢false}
 use mathlib.Core.Logic.{_⊎_, inl, inr, ⊎-elim}
 use mathlib.Core.List.{List, [], _∷_, _++_}
 use native.Mathlib.Nat.{add-zero}
@@ -17,12 +17,12 @@ use Rattle.fields.specs.Walk.{walkOf, start, lenAt, kindAt, endWithData, fieldA
 use Rattle.fields.specs.declared.Cursor.{Cursor}
 use Rattle.fields.specs.declared.Field.{Field}
 use Rattle.fields.specs.declared.Walked.{Walked}
-use Rattle.fields.specs.declared.Walked.the-variants.{Took, Finished, Misplaced, Broken}
+use Rattle.fields.specs.declared.Walked.the-variants.{Took, Finished}
 use Rattle.fields.proofs.Walked as walked
-use Rattle.fields.proofs.Outcomes.{Taken, taken, took, forward, end-only}
+use Rattle.fields.proofs.Outcomes.{taken, took, forward, end-only}
 use Rattle.body.specs.Division.{joined}
 use Rattle.body.specs.Sections.{covered}
-use Rattle.body.specs.Decision.{storedAt, fits, fieldsFrom, fieldsOf, exactFrom, all, endsEmpty, wellFormed, coveredOf}
+use Rattle.body.specs.Decision.{storedAt, fits, fieldsFrom, fieldsOf, exactFrom, endsEmpty, wellFormed, coveredOf}
 use Rattle.body.proofs.Division.{from-fits, from-none, stored-long, data-long}
 use Rattle.body.proofs.Tests.{both}
 
@@ -138,5 +138,8 @@ covered-took s c f d e =
     ap covered (from-took s c f d e)
     ∙ ap (λ (x : Field). dataOf s x ++ coveredFrom s d) (sym (taken s c f d e .field))
 
-pub covered-end : (s : List ℕ) (c : Cursor) → length s ≤ c .place → coveredFrom s c ≡ []
-covered-end s c h = ap covered (from-end s c h)
+pub covered-stop : (s : List ℕ) (c : Cursor) → length s ≤ c .place → coveredFrom s c ≡ []
+covered-stop s c h = ap covered (from-end s c h)
+
+pub covered-end : (s : List ℕ) (c : Cursor) → walkOf s c ≡ Finished → coveredFrom s c ≡ []
+covered-end s c e = let p = end-only s c e in covered-stop s c (omega arith)

@@ -1,24 +1,23 @@
 -- `wellFormed` holds exactly of the well-formed bodies, and what the HMAC covers and the counts are those of their fields: clause by clause, each test says its clause.
-use Prim.Native.Nat.{ℕ, suc, _+_, _-_, _≤_}
-use mathlib.Core.Path.{_≡_, refl, sym, ap, _∙_}
+use Prim.Native.Nat.{ℕ, _-_, _≤_}
+use mathlib.Core.Path.{_≡_, refl, ap, _∙_}
 use mathlib.Core.Logic.{_↔_}
-use mathlib.Core.Bool.{Bool, true, false, cond, not, _&&_, false≢true, true≢false}
+use mathlib.Core.Bool.{Bool, true, false, cond, not, _&&_, false≢true}
 use mathlib.Core.List.{List, [], _∷_, _++_}
 use native.Mathlib.Omega.{arith}
 use lib.Dec.{eqb, leb}
-use lib.ListN.{length, getD, take, length-append}
+use lib.ListN.{length, getD, length-append}
 use lib.Seq.{take-at}
-use borrow.Author.Tests.{eqb-true, eqb-false, eq-eqb, not-true, not-false}
+use borrow.Author.Tests.{eqb-true, eq-eqb}
 use Rattle.words.specs.Numbers.{Bytes}
 use Rattle.fields.specs.Stored.{Stored}
 use Rattle.fields.specs.Walk.{endWithData}
-use Rattle.body.specs.Division.{Each, Divides}
+use Rattle.body.specs.Division.{Each}
 use Rattle.body.specs.Sections.{runs, count, covered}
 use Rattle.body.specs.WellFormed.{VersionFirst, onceInHeader, One, GoodRecord, WellFormed}
 use Rattle.body.specs.Decision.{
   fieldsOf,
   exactFrom,
-  all,
   endsEmpty,
   versionFirst,
   one,

@@ -6,13 +6,13 @@ use mathlib.Core.Bool.{Bool, true, false, cond}
 use mathlib.Core.List.{List, [], _∷_, _++_, append-assoc, append-nil}
 use native.Mathlib.Nat.{pow-le-pow-right, add-zero, zero-add}
 use native.Mathlib.Omega.{arith}
-use lib.Dec.{leb, eqb, lit<}
-use lib.ListN.{length, take, drop, getD, length-append, length-take, length-drop, drop-of-length-le, take-append-drop}
+use lib.Dec.{lit<}
+use lib.ListN.{length, take, drop, length-append, length-take, length-drop, take-append-drop}
 use lib.Seq.{drop-cons, drop-drop, drop-length, take-at}
-use borrow.Author.Tests.{leb-true, leb-false, le-leb, lt-leb, eqb-true, eq-eqb}
-use Rattle.words.specs.Numbers.{numberLow, bytesLow, Bytes, none, more}
+use borrow.Author.Tests.{leb-true, le-leb, lt-leb, eqb-true, eq-eqb}
+use Rattle.words.specs.Numbers.{bytesLow, Bytes}
 use Rattle.words.proofs.ByteLaws.{bytes-take, bytes-drop, byte-at}
-use Rattle.words.proofs.NumberLaws.{bytes-number, number-fits, bytes-sized}
+use Rattle.words.proofs.NumberLaws.{bytes-number, number-fits}
 use Rattle.fields.specs.Stored.{Stored, bytesOf, roomOf, fillOf}
 use Rattle.fields.specs.Walk.{lenAt, kindAt, dataAt}
 use Rattle.fields.proofs.Outcomes.{room-fill}

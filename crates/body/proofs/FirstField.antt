@@ -1,28 +1,26 @@
 -- Whether the first field is Version, by what the walk at the start gives; and that with it the sections decide.
-use Prim.Native.Nat.{ℕ, _+_, _<_}
+use Prim.Native.Nat.{ℕ, _+_}
 use mathlib.Core.Path.{_≡_, refl, sym, ap, _∙_}
 use mathlib.Core.Logic.{⊎-elim}
-use mathlib.Core.Bool.{Bool, true, false, cond, not, _&&_, false≢true}
+use mathlib.Core.Bool.{Bool, true, false, cond, _&&_, false≢true}
 use mathlib.Core.List.{List, [], _∷_}
 use native.Mathlib.Omega.{arith}
 use lib.Dec.{eqb}
-use lib.ListN.{length, getD, drop}
+use lib.ListN.{getD, drop}
 use lib.Seq.{getD-take, getD-drop}
 use types.Run.{OneOf}
 use denote.Enum.Declared.{tagOf}
 use borrow.Author.Tests.{eqb-true}
 use Rattle.fields.specs.Stored.{roomOf}
-use Rattle.fields.specs.Walk.{walkOf, start, lenAt, endWithData}
+use Rattle.fields.specs.Walk.{walkOf, start, lenAt}
 use Rattle.fields.specs.declared.Cursor.{Cursor}
 use Rattle.fields.specs.declared.Field.{Field}
 use Rattle.fields.specs.declared.Walked.{Walked}
 use Rattle.fields.specs.declared.Walked.the-variants.{Took}
 use Rattle.fields.proofs.Walked as walked
 use Rattle.fields.proofs.Outcomes.{taken}
-use Rattle.body.specs.Sections.{runs}
-use Rattle.body.specs.Decision.{storedAt, fieldsFrom, fieldsOf, exactFrom, endsEmpty, versionFirst, goodRuns, wellFormed, headersOf, recordsOf, judgedOf}
+use Rattle.body.specs.Decision.{storedAt, fieldsFrom, fieldsOf, exactFrom, endsEmpty, versionFirst, wellFormed, headersOf, recordsOf, judgedOf}
 use Rattle.body.specs.Tally.{sectionsOf}
-use Rattle.body.specs.declared.Judged.{Judged}
 use Rattle.body.specs.declared.Judged.the-variants.{Counts, NotWellFormed}
 use Rattle.body.proofs.Division.{from-none}
 use Rattle.body.proofs.Along.{from-took, taken-length, taken-kind, untaken}

@@ -1,17 +1,16 @@
 -- The search field by field finds what the definition finds record by record; and where the loop stands, what the rest gives is what the body gives.
-use Prim.Native.Nat.{ℕ, zero, suc, _+_, _-_, _%_, _<_, _≤_}
+use Prim.Native.Nat.{ℕ, zero, suc, _+_, _-_, _<_, _≤_}
 use mathlib.Core.Path.{_≡_, refl, sym, ap, _∙_}
-use mathlib.Core.Bool.{Bool, true, false, cond, not, _&&_, _||_, or-true, or-false, false≢true, true≢false}
+use mathlib.Core.Bool.{Bool, true, false, cond, _&&_, _||_}
 use mathlib.Core.Logic.{⊎-elim}
 use mathlib.Core.List.{List, [], _∷_, _++_}
 use native.Mathlib.Nat.{add-zero, zero-add}
 use native.Mathlib.Omega.{arith}
-use lib.Dec.{eqb}
-use lib.ListN.{length, take, length-append}
+use lib.ListN.{length, length-append}
 use lib.Seq.{take-at}
 use types.Run.{OneOf}
 use denote.Enum.Declared.{tagOf}
-use borrow.Author.Tests.{eqb-true, eq-eqb}
+use borrow.Author.Tests.{eqb-true}
 use Rattle.fields.specs.Stored.{Stored, bytesOf, roomOf}
 use Rattle.fields.specs.Value.{valueOf}
 use Rattle.fields.specs.Walk.{walkOf, start, lenAt}
@@ -26,8 +25,8 @@ use Rattle.fields.proofs.Walked as walked
 use Rattle.fields.proofs.value.Value as value
 use Rattle.body.specs.Division.{Each, joined}
 use Rattle.body.specs.Sections.{isEnd, push, runs}
-use Rattle.body.specs.Decision.{storedAt, fits, divided, fieldsFrom, fieldsOf, exactFrom, endsEmpty, versionFirst, goodRuns, wellFormed, headerIn, recordsIn}
-use Rattle.body.specs.Find.{isUuid, has, firstWith, soughtIn, findOf}
+use Rattle.body.specs.Decision.{storedAt, fits, divided, fieldsFrom, fieldsOf, exactFrom, endsEmpty, versionFirst, goodRuns, wellFormed}
+use Rattle.body.specs.Find.{isUuid, has, firstWith, soughtIn}
 use Rattle.body.specs.Tally.{recordEnd, firstPlace}
 use Rattle.body.specs.declared.Sought.{Sought}
 use Rattle.body.specs.declared.Sought.the-variants.{At, Nowhere}

@@ -2,7 +2,7 @@
 -- each because the clauses do not look there.
 use Prim.Native.Nat.{ℕ, suc, _+_, _-_, min}
 use mathlib.Core.Path.{_≡_, refl, sym, ap, ap₂, _∙_}
-use mathlib.Core.Bool.{Bool, true, false, cond, not, _&&_, _||_}
+use mathlib.Core.Bool.{Bool, true, false, cond, _&&_}
 use mathlib.Core.List.{List, [], _∷_, _++_}
 use native.Mathlib.Nat.{zero-add}
 use lib.Dec.{eqb, leb}
@@ -14,8 +14,6 @@ use Rattle.body.specs.Division.{Divides}
 use Rattle.body.specs.Sections.{isEnd, push, runs, count, covered}
 use Rattle.body.specs.WellFormed.{onceInHeader}
 use Rattle.body.specs.Decision.{
-  fieldsOf,
-  exactFrom,
   all,
   endsEmpty,
   versionFirst,
@@ -27,8 +25,6 @@ use Rattle.body.specs.Decision.{
   wellFormed,
   headerIn,
   recordsIn,
-  headersOf,
-  recordsOf,
   coveredOf,
   judgedOf,
 }

@@ -20,10 +20,9 @@ use Rattle.fields.specs.declared.Walked.the-variants.{Took}
 use Rattle.fields.proofs.Walked as walked
 use Rattle.fields.proofs.Outcomes.{taken, forward}
 use Rattle.body.specs.Sections.{isEnd}
-use Rattle.body.specs.Decision.{storedAt, fieldsFrom, exactFrom, none, goodHeader, goodRecord}
+use Rattle.body.specs.Decision.{storedAt, fieldsFrom, exactFrom, none}
 use Rattle.body.specs.Tally.{sectionsOf, emptySection, noted, passes, stepped, headerField, recordEnd}
 use Rattle.body.specs.declared.tally.Section.{Section}
-use Rattle.body.specs.declared.Judged.{Judged}
 use Rattle.body.specs.declared.Judged.the-variants.{Counts, NotWellFormed}
 use Rattle.body.proofs.Sums.{Sums, sums-empty, sums-note, sums-passes, sums-fresh}
 use Rattle.body.proofs.Verdict.{verdict, verdict-start, verdict-end, verdict-field, verdict-stop, verdict-broken, verdict-ended}

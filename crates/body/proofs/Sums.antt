@@ -1,21 +1,20 @@
 -- What the code keeps of a section says whether the section is good: one field more changes the counts as it changes the marks.
-use Prim.Native.Nat.{ℕ, zero, suc, _+_, _<_, _≤_}
+use Prim.Native.Nat.{ℕ, zero, suc, _+_, _<_}
 use mathlib.Core.Path.{_≡_, refl, sym, ap, ap₂, _∙_}
-use mathlib.Core.Bool.{Bool, true, false, cond, not, _&&_, _||_, and-false, and-true, and-assoc, and-comm, false≢true, Bool·beq}
+use mathlib.Core.Bool.{Bool, true, false, cond, not, _&&_, _||_, and-false, and-true, and-assoc, false≢true, Bool·beq}
 use mathlib.Core.List.{List, [], _∷_, _++_}
 use native.Mathlib.Nat.{add-zero, zero-add, add-assoc}
 use native.Mathlib.Omega.{arith}
 use lib.Dec.{eqb, leb, ltb, lit<, T}
-use lib.ListN.{length, getD, set, replicate, getD-replicate, length-set}
+use lib.ListN.{length, getD, set, getD-replicate, length-set}
 use lib.Seq.{getD-set-same, getD-set-other}
 use borrow.Author.Tests.{eqb-true, eqb-false, lt-leb, lt-ltb, ne-eqb}
 use Rattle.fields.specs.Stored.{Stored}
 use Rattle.fields.specs.Value.{among}
-use Rattle.fields.proofs.Table.{at}
 use Rattle.body.specs.Sections.{count}
 use Rattle.body.specs.WellFormed.{onceInHeader}
-use Rattle.body.specs.Decision.{all, one, none, goodHeader, goodRecord}
-use Rattle.body.specs.Tally.{once, lengthFits, emptySection, stillFine, noted, passes}
+use Rattle.body.specs.Decision.{all, none, goodHeader, goodRecord}
+use Rattle.body.specs.Tally.{once, lengthFits, emptySection, noted, passes}
 use Rattle.body.specs.declared.tally.Section.{Section}
 
 -- no type of the list more than once

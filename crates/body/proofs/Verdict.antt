@@ -1,7 +1,7 @@
 -- The verdict on the rest of the fields, given the present section so far, is the verdict on the whole: one field more goes to the section or ends it.
-use Prim.Native.Nat.{ℕ, zero, suc, _+_, _-_, _≤_}
-use mathlib.Core.Path.{_≡_, refl, sym, ap, ap₂, _∙_}
-use mathlib.Core.Bool.{Bool, true, false, cond, not, _&&_}
+use Prim.Native.Nat.{ℕ, suc, _+_, _-_, _≤_}
+use mathlib.Core.Path.{_≡_, refl, ap}
+use mathlib.Core.Bool.{Bool, true, false, cond, _&&_}
 use mathlib.Core.List.{List, [], _∷_, _++_, append-assoc, append-nil}
 use native.Mathlib.Nat.{add-zero, zero-add}
 use native.Mathlib.Omega.{arith}
@@ -10,8 +10,8 @@ use lib.Seq.{length-take-le}
 use Rattle.fields.specs.Stored.{Stored}
 use Rattle.fields.specs.Walk.{endWithData}
 use Rattle.body.specs.Sections.{isEnd, push, runs}
-use Rattle.body.specs.Decision.{fieldsOf, exactFrom, all, endsEmpty, none, goodHeader, goodRecord, goodRuns, headerIn, recordsIn, headersOf, recordsOf}
-use Rattle.body.specs.Tally.{sectionsOf, headerField, recordEnd}
+use Rattle.body.specs.Decision.{fieldsOf, exactFrom, endsEmpty, none, goodHeader, goodRecord, goodRuns, headerIn, recordsIn}
+use Rattle.body.specs.Tally.{sectionsOf}
 use Rattle.body.specs.declared.Judged.{Judged}
 use Rattle.body.specs.declared.Judged.the-variants.{Counts, NotWellFormed}
 

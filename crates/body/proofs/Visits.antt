@@ -1,19 +1,19 @@
 -- From the start the walk visits each field of a body once, in order, with its place and its value, and ends: by recursion on the fields, each of which the walk gives back.
 use Prim.Native.Nat.{ℕ, _+_, _%_}
 use mathlib.Core.Path.{_≡_, refl, sym, ap, subst, _∙_}
-use mathlib.Core.Bool.{Bool, true, false, cond, not, _&&_, _||_}
+use mathlib.Core.Bool.{Bool, true, false, not, _&&_, _||_}
 use mathlib.Core.List.{List, [], _∷_, _++_, append-assoc, append-nil}
 use native.Mathlib.Omega.{arith}
 use lib.Dec.{eqb}
 use lib.ListN.{length, length-append}
 use borrow.Author.Tests.{eq-eqb, eqb-true}
-use Rattle.fields.specs.Stored.{Stored, bytesOf, roomOf, fillOf}
+use Rattle.fields.specs.Stored.{Stored, bytesOf, roomOf}
 use Rattle.fields.specs.Walk.{walkOf, start, endWithData}
 use Rattle.fields.specs.declared.Cursor.{Cursor}
 use Rattle.fields.specs.declared.Field.{Field}
 use Rattle.fields.specs.declared.Walked.the-variants.{Took, Finished}
 use Rattle.fields.proofs.Outcomes.{at-end}
-use Rattle.fields.proofs.Back.{shown, past, walk-stored}
+use Rattle.fields.proofs.Back.{shown, walk-stored}
 use Rattle.body.specs.Division.{Each, Whole, joined, Divides}
 use Rattle.body.proofs.Division.{whole-fill}
 

@@ -2,7 +2,7 @@
 -- of the well-formed bodies, and the rest exactly of their fields, is shown in proofs/Decided.antt.
 use Prim.Native.Nat.{ℕ, zero, suc, _+_, _-_}
 use mathlib.Core.Bool.{Bool, true, false, cond, not, _&&_}
-use mathlib.Core.List.{List, [], _∷_, _++_}
+use mathlib.Core.List.{List, [], _∷_}
 use lib.Dec.{leb, eqb}
 use lib.ListN.{length, getD, take, drop}
 use Rattle.fields.specs.Stored.{Stored, roomOf, fillOf}

@@ -1,9 +1,8 @@
 -- The header and the records of a list of fields: what stands before, between and after its ENDs.
 use Prim.Native.Nat.{ℕ, _+_}
-use mathlib.Core.Bool.{Bool, true, false, cond}
+use mathlib.Core.Bool.{Bool, cond}
 use mathlib.Core.List.{List, [], _∷_, _++_}
 use lib.Dec.{eqb}
-use lib.ListN.{length}
 use Rattle.fields.specs.Stored.{Stored}
 
 -- END: type ff

@@ -83,6 +83,15 @@ pub fn judge(body: &[u8]) -> Judged
     Judged::NotWellFormed
 }
 
+pub fn well_formed(body: &[u8]) -> bool
+    ensures { λ r. ⌜ r ≡ wellFormed (now (body .entry)) ⌝ }
+{
+    let Judged::Counts(_, _) = judge(body) else {
+        return false;
+    };
+    true
+}
+
 // A record's field with the UUID of these halves.
 fn matches(in_record: bool, v: Value, low: u64, high: u64) -> bool
     ensures { λ r. ⌜ r ≡ («in_record» && isUuid v low high) ⌝ }
@@ -125,11 +134,11 @@ fn seek(body: &[u8], low: u64, high: u64) -> Sought
 pub fn find(body: &[u8], low: u64, high: u64) -> Found
     ensures { λ r. ⌜ r ≡ findOf (now (body .entry)) low high ⌝ }
 {
-    let Judged::Counts(_, _) = judge(body) else {
-        return Found {
-            sought: Sought::NotWellFormed,
-        };
-    };
-    let sought = seek(body, low, high);
-    Found { sought: sought }
+    if well_formed(body) {
+        let sought = seek(body, low, high);
+        return Found { sought: sought };
+    }
+    Found {
+        sought: Sought::NotWellFormed,
+    }
 }

@@ -1,13 +1,13 @@
 -- What an append gives, by the tests on the way: each is one case of the definition's chain.
 use Prim.Native.Nat.{ℕ, _+_, _-_, _%_, _≤_, _<_}
-use mathlib.Core.Path.{_≡_, refl, sym, ap, _∙_}
+use mathlib.Core.Path.{_≡_}
 use mathlib.Core.Bool.{true, false}
 use mathlib.Core.List.{List, _++_}
 use native.Mathlib.Omega.{arith}
 use lib.ListN.{length, take, drop}
 use lib.Seq.{drop-drop}
 use Rattle.text.proofs.Tests.{tests}
-use Rattle.fields.specs.Stored.{Stored, bytesOf, roomOf, fillOf}
+use Rattle.fields.specs.Stored.{Stored, roomOf, fillOf}
 use Rattle.fields.specs.Walk.{endWithData}
 use Rattle.fields.specs.Append.{appendOf}
 use Rattle.fields.specs.declared.store.Appended.the-variants.{Next, EndWithData, BadFill, NoRoom}

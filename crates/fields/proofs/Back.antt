@@ -1,27 +1,25 @@
 -- The walk at the place of a stored field gives that field back, and so at the place of an append: the field's own bytes say its length, its type and its data.
-use Prim.Native.Nat.{ℕ, _+_, _-_, _*_, _%_, _^_, _≤_, _<_}
+use Prim.Native.Nat.{ℕ, _+_, _-_, _%_, _^_, _≤_, _<_}
 use mathlib.Core.Path.{_≡_, refl, sym, ap, _∙_}
 use mathlib.Core.Bool.{Bool, true, false, cond, not, _||_}
 use mathlib.Core.List.{List, [], _∷_, _++_, append-assoc}
 use native.Mathlib.Nat.{mod-eq-of-lt}
 use native.Mathlib.Omega.{arith}
 use lib.Dec.{eqb, ltb}
-use lib.ListN.{length, take, drop, getD, length-append}
+use lib.ListN.{length, take, drop, length-append}
 use lib.Seq.{length-take-le, drop-at, drop-drop, getD-drop, getD-at, take-at}
 use borrow.Author.Tests.{eqb-true, ltb-false, not-false}
-use Rattle.words.specs.Numbers.{numberLow, bytesLow}
+use Rattle.words.specs.Numbers.{bytesLow}
 use Rattle.words.proofs.NumberLaws.{number-bytes, bytes-sized}
 use Rattle.fields.specs.Stored.{Stored, bytesOf, roomOf, fillOf}
 use Rattle.fields.specs.Value.{valueOf}
-use Rattle.fields.specs.Walk.{lenAt, kindAt, dataAt, endWithData, misplaced, walkOf, fieldAt, after}
+use Rattle.fields.specs.Walk.{lenAt, kindAt, dataAt, endWithData, misplaced, walkOf}
 use Rattle.fields.specs.Append.{badFill, noRoom, appendOf, bufferAfter}
 use Rattle.fields.specs.declared.Cursor.{Cursor}
 use Rattle.fields.specs.declared.Field.{Field}
-use Rattle.fields.specs.declared.Walked.{Walked}
 use Rattle.fields.specs.declared.Walked.the-variants.{Took}
-use Rattle.fields.specs.declared.store.Appended.{Appended}
 use Rattle.fields.specs.declared.store.Appended.the-variants.{Next, Misplaced, EndWithData, BadFill, NoRoom}
-use Rattle.fields.proofs.Outcomes.{neither, took, room-fill}
+use Rattle.fields.proofs.Outcomes.{neither, took}
 
 pub bytes-long : (f : Stored) → length (bytesOf f) ≡ 5 + length (f .content) + length (f .fill)
 bytes-long f = simp (length-append, bytes-sized 4 (length (f .content)) .long) (omega arith)

@@ -1,12 +1,12 @@
 -- What the walk gives and what that says of the body: each by the tests of its definition, taken one by one.
 use Prim.Native.Nat.{ℕ, _+_, _-_, _*_, _%_, _<_, _≤_}
-use mathlib.Core.Path.{_≡_, refl, sym, ap, _∙_}
-use mathlib.Core.Bool.{Bool, true, false, cond, not, _&&_, _||_}
+use mathlib.Core.Path.{_≡_, refl, sym, ap}
+use mathlib.Core.Bool.{Bool, true, false, cond, not, _||_}
 use mathlib.Core.List.{List}
 use native.Mathlib.Omega.{arith}
 use lib.Dec.{eqb, ltb}
 use lib.ListN.{length}
-use borrow.Author.Tests.{eqb-true, ltb-false, eq-eqb, not-false}
+use borrow.Author.Tests.{eqb-true, ltb-false, not-false}
 use Rattle.text.proofs.Tests.{tests}
 use Rattle.fields.specs.Stored.{blocksOf, roomOf, fillOf}
 use Rattle.fields.specs.Walk.{walkOf, lenAt, kindAt, dataAt, endWithData, misplaced, broken, fieldAt, after}
@@ -14,7 +14,6 @@ use Rattle.fields.specs.Value.{valueOf}
 use Rattle.fields.specs.declared.value.Value.{Value}
 use Rattle.fields.specs.declared.Cursor.{Cursor}
 use Rattle.fields.specs.declared.Field.{Field}
-use Rattle.fields.specs.declared.Walked.{Walked}
 use Rattle.fields.specs.declared.Walked.the-variants.{Took, Finished, Misplaced, Broken}
 
 -- length, type, data and fill make up the field's blocks

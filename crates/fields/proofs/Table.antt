@@ -1,6 +1,6 @@
 -- A test that passes at each number below n, computed once, holds at every one of them: by recursion on n.
 use Prim.Native.Nat.{ℕ, zero, suc, _<_}
-use mathlib.Core.Path.{_≡_, subst}
+use mathlib.Core.Path.{subst}
 use mathlib.Core.Bool.{Bool, true, false}
 use native.Mathlib.Decide.{decLt}
 use native.Mathlib.Omega.{arith}

@@ -8,7 +8,7 @@ pub use value::Value;
 ghost use mathlib.Core.Path.{_≡_};
 ghost use mathlib.Core.Bool.{_||_};
 ghost use lib.Dec.{eqb};
-ghost use Rattle.fields.specs.Stored.{fillOf};
+ghost use Rattle.fields.specs.Stored.{roomOf, fillOf};
 ghost use Rattle.fields.specs.Walk.{start as startOf, endWithData, walkOf};
 
 // Where the walk stands, and whether it is in a record or still in the header.
@@ -49,6 +49,14 @@ pub fn fill_for(len: usize) -> usize
     (27 - len % 16) % 16
 }
 
+// The bytes that a field with so many bytes of data takes: whole blocks.
+fn room(len: u32) -> usize
+    ensures { λ r. ⌜ r ≡ roomOf len ⌝ }
+{
+    let n = len as usize;
+    5 + n + fill_for(n)
+}
+
 pub fn end_with_data(kind: u8, len: usize) -> bool
     ensures { λ r. ⌜ r ≡ endWithData kind len ⌝ }
 {
@@ -87,9 +95,10 @@ pub fn walk(body: &[u8], c: Cursor) -> Walked
     if n - at < 16 {
         return Walked::Broken;
     }
-    let len = words::numbers::low(body[at], body[at + 1], body[at + 2], body[at + 3]) as usize;
+    let size = words::numbers::low(body[at], body[at + 1], body[at + 2], body[at + 3]);
+    let len = size as usize;
     let kind = body[at + 4];
-    let room = 5 + len + fill_for(len);
+    let room = room(size);
     if n - at < room {
         return Walked::Broken;
     }

@@ -1,14 +1,14 @@
 -- The decision holds exactly for texts: the grammar gives the run over the bytes, and the tests at the two ends are read off the list.
-use Prim.Native.Nat.{ℕ, suc, _+_, _-_, _<_, _≤_}
+use Prim.Native.Nat.{ℕ, suc, _+_, _-_, _<_}
 use mathlib.Core.Path.{_≡_, refl, sym, ap, _∙_}
 use mathlib.Core.Logic.{_↔_}
 use mathlib.Core.Bool.{Bool, true, false, cond, false≢true, true≢false}
 use mathlib.Core.List.{List, [], _∷_, _++_}
 use native.Mathlib.Omega.{arith}
 use lib.Dec.{ltb, eqb}
-use lib.ListN.{length, take, drop, getD, length-append, drop-of-length-le}
+use lib.ListN.{length, take, getD, length-append, drop-of-length-le}
 use lib.Seq.{split-at, getD-at}
-use borrow.Author.Tests.{le-ltb, eq-eqb, ne-eqb, eqb-true}
+use borrow.Author.Tests.{le-ltb, ne-eqb, eqb-true}
 use Rattle.text.specs.Grammar.{IsText}
 use Rattle.text.specs.Decision.{utf8Of, markedOf, endsInZero, textOf}
 use Rattle.text.proofs.Grammar.{grammar}

@@ -1,3 +1,4 @@
+-- `sections` meets its contract: the loop keeps where the pass stands (Stands), and the place grows at each turn.
 use Prim.Native.Nat.{_-_}
 use mathlib.Core.Path.{_≡_, sym, _∙_}
 use native.Mathlib.Omega.{arith}
@@ -9,14 +10,6 @@ use Rattle.body.proofs.Stands.{Stands, stands-start, stands-broken, sta
 use borrow.Author.Needs.{needs}
 use Rattle.body.proofs.sections.Statement.{statement}
 use Rattle.body.proofs.sections.Tie as tie
-use Rattle.body.proofs.sections.Reads as reads
-use Rattle.body.proofs.sections.Lts as lts
-use Rattle.body.proofs.tally.empty.Reads as empty-reads
-use Rattle.body.proofs.tally.header_field.Reads as header-field-reads
-use Rattle.body.proofs.tally.record_end.Reads as record-end-reads
-use Rattle.body.proofs.tally.step.Reads as step-reads
-use Rattle.fields.proofs.start.Reads as start-reads
-use Rattle.fields.proofs.walk.Reads as walk-reads
 
 abbrev Inv-loop : tie.InvT-loop
 Inv-loop body c₀ x₀ headers₀ records₀ c x headers records = Stands body c x headers records
@@ -24,60 +17,27 @@ Inv-loop body c₀ x₀ headers₀ records₀ c x headers records = Stands body 
 abbrev μ-loop : tie.MeasureT-loop
 μ-loop body c₀ x₀ headers₀ records₀ c x headers records = length body - c .place
 
--- src/lib.rt:52:9
-start-requires : tie.Need-start-requires Inv-loop μ-loop
-start-requires c κs = search needs
-
--- src/lib.rt:53:9
-empty-requires : tie.Need-empty-requires Inv-loop μ-loop
-empty-requires c κs = search needs
-
--- src/lib.rt:56:5
 loop-holds : tie.Need-loop-holds Inv-loop μ-loop
 loop-holds c = rw (c .empty .ensures, c .before .start .ensures) (stands-start (c .before .before .before .args .body .now))
 
--- src/lib.rt:57:37
-walk-requires : tie.Need-walk-requires Inv-loop μ-loop
-walk-requires c κs = search needs
-
--- src/lib.rt:57:26
-enum-known-f : tie.Need-enum-known-f Inv-loop μ-loop
-enum-known-f c = search needs
-
--- src/lib.rt:58:13
 returns : tie.Need-returns Inv-loop μ-loop
 returns c =
     let s = c .before .before .before .before .before .before .before .before .args .body .now in
     let at = c .before .before .before .before .loop in
     stands-broken s (at .c) (at .x) (at .headers) (at .records) (at .inv) (c .before .walk .result) (c .before .walk .ensures) (c .before .before .if1 .taken) (c .match .keys2)
 
--- src/lib.rt:60:20
-header-field-requires : tie.Need-header-field-requires Inv-loop μ-loop
-header-field-requires c κs = search needs
-
--- src/lib.rt:60:9
 add-headers : tie.Need-add-headers Inv-loop μ-loop
 add-headers c =
     let s = c .before .before .before .before .before .before .before .before .before .before .before .args .body .now in
     let at = c .before .before .before .before .before .before .before .loop in
     omega (arith, at .inv .few, at .inv .within, c .header-field .ensures, at-most-one (at .c .«in_record») (c .before .before .f .given .0 .0 .kind))
 
--- src/lib.rt:61:20
-record-end-requires : tie.Need-record-end-requires Inv-loop μ-loop
-record-end-requires c κs = search needs
-
--- src/lib.rt:61:9
 add-records : tie.Need-add-records Inv-loop μ-loop
 add-records c =
     let s = c .before .before .before .before .before .before .before .before .before .before .before .before .args .body .now in
     let at = c .before .before .before .before .before .before .before .before .loop in
     omega (arith, at .inv .few, at .inv .within, c .record-end .ensures, at-most-one (at .c .«in_record») (c .before .before .before .f .given .0 .0 .kind))
 
--- src/lib.rt:62:9
-step-requires : tie.Need-step-requires Inv-loop μ-loop
-step-requires c κs = search needs
-
--- src/lib.rt:56:5
 loop-less : tie.Need-loop-less Inv-loop μ-loop
 loop-less c =
     let s = c .before .before .before .before .before .before .before .before .before .before .before .before .before .args .body .now in
@@ -85,7 +45,6 @@ loop-less c =
     let took : walkOf s (at .c) ≡ Took (c .before .before .before .before .f .given .0 .0) (c .before .before .before .before .f .given .0 .1 .0) = sym (c .before .before .before .before .before .before .walk .ensures) ∙ c .before .before .before .before .f .given .1 in
     omega (arith, forward s (at .c) _ _ took)
 
--- src/lib.rt:56:5
 loop-again : tie.Need-loop-again Inv-loop μ-loop
 loop-again c =
     let s = c .before .before .before .before .before .before .before .before .before .before .before .before .before .args .body .now in
@@ -93,28 +52,24 @@ loop-again c =
     let took : walkOf s (at .c) ≡ Took (c .before .before .before .before .f .given .0 .0) (c .before .before .before .before .f .given .0 .1 .0) = sym (c .before .before .before .before .before .before .walk .ensures) ∙ c .before .before .before .before .f .given .1 in
     stands-took s (at .c) (at .x) (at .headers) (at .records) (at .inv) _ _ took _ _ _ (c .step .ensures) (c .before .before .header-field .ensures) (c .before .record-end .ensures)
 
--- src/lib.rt:66:9
 returns-2 : tie.Need-returns-2 Inv-loop μ-loop
 returns-2 c =
     let s = c .before .before .before .before .before .before .before .args .body .now in
     let at = c .before .before .before .loop in
     stands-used s (at .c) (at .x) (at .headers) (at .records) (at .inv) (c .before .if1 .left) (c .if2 .taken)
 
--- src/lib.rt:70:13
 returns-3 : tie.Need-returns-3 Inv-loop μ-loop
 returns-3 c =
     let s = c .before .before .before .before .before .before .before .before .before .args .body .now in
     let at = c .before .before .before .before .before .loop in
     sym (stands-ended s (at .c) (at .x) (at .headers) (at .records) (at .inv) (c .before .before .before .if1 .left) (c .before .before .if2 .left) ∙ rw (c .before .if3 .taken, c .if4 .taken))
 
--- src/lib.rt:72:9
 returns-4 : tie.Need-returns-4 Inv-loop μ-loop
 returns-4 c =
     let s = c .before .before .before .before .before .before .before .before .before .args .body .now in
     let at = c .before .before .before .before .before .loop in
     sym (stands-ended s (at .c) (at .x) (at .headers) (at .records) (at .inv) (c .before .before .before .if1 .left) (c .before .before .if2 .left) ∙ rw (c .before .if3 .taken, c .if4 .left))
 
--- src/lib.rt:49:1
 returns-5 : tie.Need-returns-5 Inv-loop μ-loop
 returns-5 c =
     let s = c .before .before .before .before .before .before .before .before .args .body .now in
@@ -127,17 +82,17 @@ sections-spec =
     (tie.spec
     Inv-loop
     μ-loop
-    start-requires
-    empty-requires
+    (λ c κs. search needs)
+    (λ c κs. search needs)
     loop-holds
-    walk-requires
-    enum-known-f
+    (λ c κs. search needs)
+    (λ c. search needs)
     returns
-    header-field-requires
+    (λ c κs. search needs)
     add-headers
-    record-end-requires
+    (λ c κs. search needs)
     add-records
-    step-requires
+    (λ c κs. search needs)
     loop-less
     loop-again
     returns-2

@@ -1,3 +1,4 @@
+-- `seek` meets its contract: the loop keeps that what the rest gives is what the body gives (Hunts), and the place grows at each turn.
 use Prim.Native.Nat.{_-_}
 use mathlib.Core.Path.{_≡_, sym, _∙_}
 use native.Mathlib.Omega.{arith}
@@ -10,13 +11,6 @@ use Rattle.body.proofs.Hunt.{Hunts, hunts-start, hunts-else, hunts-stop
 use borrow.Author.Needs.{needs}
 use Rattle.body.proofs.seek.Statement.{statement}
 use Rattle.body.proofs.seek.Tie as tie
-use Rattle.body.proofs.seek.Reads as reads
-use Rattle.body.proofs.seek.Lts as lts
-use Rattle.body.proofs.matches.Reads as matches-reads
-use Rattle.body.proofs.tally.first_place.Reads as first-place-reads
-use Rattle.body.proofs.tally.record_end.Reads as record-end-reads
-use Rattle.fields.proofs.start.Reads as start-reads
-use Rattle.fields.proofs.walk.Reads as walk-reads
 
 abbrev Inv-loop : tie.InvT-loop
 Inv-loop body low high c₀ number₀ first₀ c number first = Hunts body low high c number first
@@ -24,23 +18,9 @@ Inv-loop body low high c₀ number₀ first₀ c number first = Hunts body low h
 abbrev μ-loop : tie.MeasureT-loop
 μ-loop body low high c₀ number₀ first₀ c number first = length body - c .place
 
--- src/lib.rt:106:9
-start-requires : tie.Need-start-requires Inv-loop μ-loop
-start-requires c κs = search needs
-
--- src/lib.rt:109:5
 loop-holds : tie.Need-loop-holds Inv-loop μ-loop
 loop-holds c = rw (c .start .ensures) (hunts-start (c .before .before .args .body .now) (c .before .before .args .low) (c .before .before .args .high) (c .before .before .pre))
 
--- src/lib.rt:110:37
-walk-requires : tie.Need-walk-requires Inv-loop μ-loop
-walk-requires c κs = search needs
-
--- src/lib.rt:110:26
-enum-known-f : tie.Need-enum-known-f Inv-loop μ-loop
-enum-known-f c = search needs
-
--- src/lib.rt:111:13
 returns : tie.Need-returns Inv-loop μ-loop
 returns c =
     let g = c .before .before .before .before .before .before .before .args in
@@ -48,11 +28,6 @@ returns c =
     let at = c .before .before .before .before .loop in
     hunts-else s (g .low) (g .high) (at .c) (at .number) (at .first) (at .inv) (c .before .walk .result) (c .before .walk .ensures) (c .before .before .if1 .taken) (c .match .keys2)
 
--- src/lib.rt:114:12
-matches-requires : tie.Need-matches-requires Inv-loop μ-loop
-matches-requires c κs = search needs
-
--- src/lib.rt:115:13
 returns-2 : tie.Need-returns-2 Inv-loop μ-loop
 returns-2 c =
     let g = c .before .before .before .before .before .before .before .before .before .before .before .args in
@@ -61,11 +36,6 @@ returns-2 c =
     let took : walkOf s (at .c) ≡ Took (c .before .before .before .f .given .0 .0) (c .before .before .before .f .given .0 .1 .0) = sym (c .before .before .before .before .before .walk .ensures) ∙ c .before .before .before .f .given .1 in
     hunts-found s (g .low) (g .high) (at .c) (at .number) (at .first) (at .inv) _ _ took (sym (c .before .matches .ensures) ∙ c .if2 .taken)
 
--- src/lib.rt:117:19
-record-end-requires : tie.Need-record-end-requires Inv-loop μ-loop
-record-end-requires c κs = search needs
-
--- src/lib.rt:117:9
 add-number : tie.Need-add-number Inv-loop μ-loop
 add-number c =
     let g = c .before .before .before .before .before .before .before .before .before .before .before .before .args in
@@ -73,11 +43,6 @@ add-number c =
     let at = c .before .before .before .before .before .before .before .before .before .loop in
     omega (arith, at .inv .few, at .inv .along .within, c .record-end .ensures, at-most-one (at .c .«in_record») (c .before .before .before .before .f .given .0 .0 .kind))
 
--- src/lib.rt:118:9
-first-place-requires : tie.Need-first-place-requires Inv-loop μ-loop
-first-place-requires c κs = search needs
-
--- src/lib.rt:109:5
 loop-less : tie.Need-loop-less Inv-loop μ-loop
 loop-less c =
     let g = c .before .before .before .before .before .before .before .before .before .before .before .before .before .args in
@@ -86,7 +51,6 @@ loop-less c =
     let took : walkOf s (at .c) ≡ Took (c .before .before .before .before .before .f .given .0 .0) (c .before .before .before .before .before .f .given .0 .1 .0) = sym (c .before .before .before .before .before .before .before .walk .ensures) ∙ c .before .before .before .before .before .f .given .1 in
     omega (arith, forward s (at .c) _ _ took)
 
--- src/lib.rt:109:5
 loop-again : tie.Need-loop-again Inv-loop μ-loop
 loop-again c =
     let g = c .before .before .before .before .before .before .before .before .before .before .before .before .before .args in
@@ -95,7 +59,6 @@ loop-again c =
     let took : walkOf s (at .c) ≡ Took (c .before .before .before .before .before .f .given .0 .0) (c .before .before .before .before .before .f .given .0 .1 .0) = sym (c .before .before .before .before .before .before .before .walk .ensures) ∙ c .before .before .before .before .before .f .given .1 in
     hunts-took s (g .low) (g .high) (at .c) (at .number) (at .first) (at .inv) _ _ took _ _ (sym (c .before .before .before .matches .ensures) ∙ c .before .before .if2 .left) (c .before .record-end .ensures) (c .first-place .ensures)
 
--- src/lib.rt:102:1
 returns-3 : tie.Need-returns-3 Inv-loop μ-loop
 returns-3 c =
     let g = c .before .before .before .before .before .args in
@@ -109,16 +72,16 @@ seek-spec =
     (tie.spec
     Inv-loop
     μ-loop
-    start-requires
+    (λ c κs. search needs)
     loop-holds
-    walk-requires
-    enum-known-f
+    (λ c κs. search needs)
+    (λ c. search needs)
     returns
-    matches-requires
+    (λ c κs. search needs)
     returns-2
-    record-end-requires
+    (λ c κs. search needs)
     add-number
-    first-place-requires
+    (λ c κs. search needs)
     loop-less
     loop-again
     returns-3)

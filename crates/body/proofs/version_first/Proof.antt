@@ -1,3 +1,4 @@
+-- `version_first` meets its contract: what the walk at the start gives says whether the first field is Version.
 use mathlib.Core.Path.{_≡_, sym, ap, _∙_}
 use native.Mathlib.Omega.{arith}
 use Rattle.text.proofs.Tests.{tests}
@@ -8,49 +9,28 @@ use Rattle.body.proofs.FirstField.{version-took, version-none}
 use borrow.Author.Needs.{needs}
 use Rattle.body.proofs.version_first.Statement.{statement}
 use Rattle.body.proofs.version_first.Tie as tie
-use Rattle.body.proofs.version_first.Reads as reads
-use Rattle.body.proofs.version_first.Lts as lts
-use Rattle.fields.proofs.start.Reads as start-reads
-use Rattle.fields.proofs.walk.Reads as walk-reads
 
--- src/lib.rt:36:49
-start-requires : tie.Need-start-requires
-start-requires c κs = search needs
-
--- src/lib.rt:36:30
-walk-requires : tie.Need-walk-requires
-walk-requires c κs = search needs
-
--- src/lib.rt:36:22
-enum-known-f : tie.Need-enum-known-f
-enum-known-f c = search needs
-
--- src/lib.rt:37:9
 returns : tie.Need-returns
 returns c = version-none (c .before .before .before .before .args .body .now) (c .before .walk .result) (c .before .walk .ensures ∙ ap (walkOf (c .before .before .before .before .args .body .now)) (c .before .before .start .ensures)) (c .match .keys2)
 
--- src/lib.rt:40:9
 returns-2 : tie.Need-returns-2
 returns-2 c =
     let s = c .before .before .before .before .before .before .before .before .args .body .now in
     let took : walkOf s start ≡ Took (c .before .before .before .f .given .0 .0) (c .before .before .before .f .given .0 .1 .0) = ap (walkOf s) (sym (c .before .before .before .before .before .before .start .ensures)) ∙ sym (c .before .before .before .before .before .walk .ensures) ∙ c .before .before .before .f .given .1 in
     rw (← version-took s _ _ took) (search tests)
 
--- src/lib.rt:43:9
 returns-3 : tie.Need-returns-3
 returns-3 c =
     let s = c .before .before .before .before .before .before .before .before .before .before .args .body .now in
     let took : walkOf s start ≡ Took (c .before .before .before .before .before .f .given .0 .0) (c .before .before .before .before .before .f .given .0 .1 .0) = ap (walkOf s) (sym (c .before .before .before .before .before .before .before .before .start .ensures)) ∙ sym (c .before .before .before .before .before .before .before .walk .ensures) ∙ c .before .before .before .before .before .f .given .1 in
     rw (← version-took s _ _ took) (search tests)
 
--- src/lib.rt:45:5
 shared-slice-read-result : tie.Need-shared-slice-read-result
 shared-slice-read-result c =
     let s = c .before .before .before .before .before .before .before .before .before .before .before .args .body .now in
     let took : walkOf s start ≡ Took (c .before .before .before .before .before .before .f .given .0 .0) (c .before .before .before .before .before .before .f .given .0 .1 .0) = ap (walkOf s) (sym (c .before .before .before .before .before .before .before .before .before .start .ensures)) ∙ sym (c .before .before .before .before .before .before .before .before .walk .ensures) ∙ c .before .before .before .before .before .before .f .given .1 in
     omega (arith, forward s start _ _ took)
 
--- src/lib.rt:33:1
 returns-4 : tie.Need-returns-4
 returns-4 c =
     let s = c .before .before .before .before .before .before .before .before .before .before .before .args .body .now in
@@ -61,9 +41,9 @@ pub version-first-spec : {M : Type 1} → statement M
 version-first-spec =
     tie.close
     (tie.spec
-    start-requires
-    walk-requires
-    enum-known-f
+    (λ c κs. search needs)
+    (λ c κs. search needs)
+    (λ c. search needs)
     returns
     returns-2
     returns-3

@@ -1,32 +1,25 @@
+-- `length_fits` meets its contract: each return is the case of the definition that its tests pick.
 use Rattle.body.specs.Tally.{lengthFits}
 use Rattle.text.proofs.Tests.{tests}
-use borrow.Author.Needs.{needs}
 use Rattle.body.proofs.tally.length_fits.Statement.{statement}
 use Rattle.body.proofs.tally.length_fits.Tie as tie
-use Rattle.body.proofs.tally.length_fits.Reads as reads
-use Rattle.body.proofs.tally.length_fits.Lts as lts
 
--- src/lib.rt:59:13
 returns : tie.Need-returns
 unfolding lengthFits
 returns c = rw (c .before .if1 .taken) (search tests)
 
--- src/lib.rt:62:13
 returns-2 : tie.Need-returns-2
 unfolding lengthFits
 returns-2 c = rw (c .before .before .if1 .taken) (search tests)
 
--- src/lib.rt:65:13
 returns-3 : tie.Need-returns-3
 unfolding lengthFits
 returns-3 c = rw (c .before .before .before .if1 .taken) (search tests)
 
--- src/lib.rt:67:9
 returns-4 : tie.Need-returns-4
 unfolding lengthFits
 returns-4 c = rw (c .before .before .before .if1 .taken) (search tests)
 
--- src/lib.rt:54:1
 returns-5 : tie.Need-returns-5
 unfolding lengthFits
 returns-5 c = rw (c .if1 .left)

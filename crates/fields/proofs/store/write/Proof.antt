@@ -1,77 +1,12 @@
+-- `write` meets its contract: the head, the data and the fill each go into the part that is theirs.
 use Prim.Native.Nat.{_+_}
 use native.Mathlib.Nat.{add-sub-cancel-left}
-use native.Mathlib.Omega.{arith}
 use lib.ListN.{length}
 use Rattle.fields.proofs.Parts.{written}
 use borrow.Author.Needs.{needs}
 use Rattle.fields.proofs.store.write.Statement.{statement}
 use Rattle.fields.proofs.store.write.Tie as tie
-use Rattle.fields.proofs.store.write.Reads as reads
-use Rattle.fields.proofs.store.write.Lts as lts
-use Rattle.fields.proofs.store.head.Reads as head-reads
-use Rattle.words.proofs.slices.copy.Reads as copy-reads
 
--- src/store.rt:37:14
-add-at : tie.Need-add-at
-add-at c = search needs
-
--- src/store.rt:38:15
-add-end : tie.Need-add-end
-add-end c = search needs
-
--- src/store.rt:39:10
-sub-head : tie.Need-sub-head
-sub-head c = search needs
-
--- src/store.rt:39:10
-part-head-start : tie.Need-part-head-start
-part-head-start c = search needs
-
--- src/store.rt:39:10
-part-head-end : tie.Need-part-head-end
-part-head-end c = search needs
-
--- src/store.rt:39:5
-head-requires : tie.Need-head-requires
-head-requires c κs = search needs
-
--- src/store.rt:40:25
-sub-copy : tie.Need-sub-copy
-sub-copy c = search needs
-
--- src/store.rt:40:25
-part-copy-start : tie.Need-part-copy-start
-part-copy-start c = search needs
-
--- src/store.rt:40:25
-part-copy-end : tie.Need-part-copy-end
-part-copy-end c = search needs
-
--- src/store.rt:40:5
-copy-requires : tie.Need-copy-requires
-copy-requires c κs = search needs
-
--- src/store.rt:41:25
-sub-copy-2 : tie.Need-sub-copy-2
-sub-copy-2 c = search needs
-
--- src/store.rt:41:25
-part-copy-start-2 : tie.Need-part-copy-start-2
-part-copy-start-2 c = search needs
-
--- src/store.rt:41:25
-part-copy-end-2 : tie.Need-part-copy-end-2
-part-copy-end-2 c = search needs
-
--- src/store.rt:41:5
-copy-requires-2 : tie.Need-copy-requires-2
-copy-requires-2 c κs = search needs
-
--- src/store.rt:32:1
-same-length : tie.Need-same-length
-same-length c = search needs
-
--- src/store.rt:32:1
 returns : tie.Need-returns
 returns c =
     let a = c .before .before .before .before .before .before .before .before .before .before .before .before .before .before .before .args in
@@ -84,19 +19,19 @@ pub write-spec : {M : Type 1} → statement M
 write-spec =
     tie.close
     (tie.spec
-    add-at
-    add-end
-    sub-head
-    part-head-start
-    part-head-end
-    head-requires
-    sub-copy
-    part-copy-start
-    part-copy-end
-    copy-requires
-    sub-copy-2
-    part-copy-start-2
-    part-copy-end-2
-    copy-requires-2
-    same-length
+    (λ c. search needs)
+    (λ c. search needs)
+    (λ c. search needs)
+    (λ c. search needs)
+    (λ c. search needs)
+    (λ c κs. search needs)
+    (λ c. search needs)
+    (λ c. search needs)
+    (λ c. search needs)
+    (λ c κs. search needs)
+    (λ c. search needs)
+    (λ c. search needs)
+    (λ c. search needs)
+    (λ c κs. search needs)
+    (λ c. search needs)
     returns)

@@ -1,3 +1,4 @@
+-- `word` meets its contract: a list of four bytes is what stands at its four indices.
 use mathlib.Core.Path.{_≡_, ap, _∙_}
 use lib.ListN.{length}
 use borrow.Author.Tests.{eq-eqb}
@@ -8,35 +9,10 @@ use Rattle.fields.proofs.Places.{whole-four}
 use borrow.Author.Needs.{needs}
 use Rattle.fields.proofs.value.word.Statement.{statement}
 use Rattle.fields.proofs.value.word.Tie as tie
-use Rattle.fields.proofs.value.word.Reads as reads
-use Rattle.fields.proofs.value.word.Lts as lts
-use Rattle.words.proofs.numbers.low.Reads as low-reads
 
--- src/value.rt:138:9
 returns : tie.Need-returns
 returns c = search tests
 
--- src/value.rt:140:39
-shared-slice-read-low : tie.Need-shared-slice-read-low
-shared-slice-read-low c = search needs
-
--- src/value.rt:140:45
-shared-slice-read-low-2 : tie.Need-shared-slice-read-low-2
-shared-slice-read-low-2 c = search needs
-
--- src/value.rt:140:51
-shared-slice-read-low-3 : tie.Need-shared-slice-read-low-3
-shared-slice-read-low-3 c = search needs
-
--- src/value.rt:140:57
-shared-slice-read-low-4 : tie.Need-shared-slice-read-low-4
-shared-slice-read-low-4 c = search needs
-
--- src/value.rt:140:19
-low-requires : tie.Need-low-requires
-low-requires c κs = search needs
-
--- src/value.rt:134:1
 returns-2 : tie.Need-returns-2
 returns-2 c =
     let d = c .before .before .before .before .before .before .before .args .d .now in
@@ -48,9 +24,9 @@ word-spec =
     tie.close
     (tie.spec
     returns
-    shared-slice-read-low
-    shared-slice-read-low-2
-    shared-slice-read-low-3
-    shared-slice-read-low-4
-    low-requires
+    (λ c. search needs)
+    (λ c. search needs)
+    (λ c. search needs)
+    (λ c. search needs)
+    (λ c κs. search needs)
     returns-2)
