@@ -5,8 +5,6 @@
 #
 # All need rt (the Rattle toolchain), cargo, gcc and make, and no network.
 
-MAKEFLAGS += --no-print-directory
-
 TALC := rust/target/release/talc
 
 logins: library
@@ -23,6 +21,6 @@ test:
 	@tools/test
 
 bench agree: library probe
-	@$(MAKE) -C bench $@
+	@$(MAKE) --no-print-directory -C bench $@
 
 .PHONY: logins library probe test bench agree
