@@ -1,0 +1,26 @@
+# make         builds all and lists the logins of the example safe
+# make test    proves all from nothing, tries it as it is linked, and ends with the verdict
+# make bench   times the proved code beside other libraries (docs/BENCHMARKS.md)
+# make agree   compares the lower layers with libgcrypt and nettle, where they are there
+#
+# All need rt (the Rattle toolchain), cargo, gcc and make, and no network.
+
+TALC := rust/target/release/talc
+
+logins: library
+	cd rust && cargo build --offline --release --quiet
+	$(TALC) list examples/floor.psafe3 --passphrase-file examples/floor.passphrase
+
+library:
+	rt staticlib talcfeather
+
+probe:
+	rt staticlib probe
+
+test:
+	@tools/test
+
+bench agree: library probe
+	@$(MAKE) --no-print-directory -C bench $@
+
+.PHONY: logins library probe test bench agree
