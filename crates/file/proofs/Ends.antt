@@ -16,7 +16,7 @@ use Rattle.file.specs.Layout.{Parts, split, differ}
 use Rattle.file.specs.Refusals.{Test, First, here, later}
 use Rattle.file.specs.Edition.{Edition, Stretched}
 use Rattle.file.specs.Reading.{Report, refused, accepted, earlyTests, keyK, keyL, bodyOf, checked, readingOf}
-use Rattle.file.specs.Writing.{Writing, unwritten, earlyWriteTests, writeTests, written, writingOf}
+use Rattle.file.specs.Writing.{Writing, unwritten, writeTests, written, writingOf}
 use Rattle.file.proofs.Tables.{Decided, passes, stops, decide, first-stops, first-between}
 use Rattle.file.proofs.Passed.{Late, Early, as-early, early, passed-early, refused-first, Matches, Whole, late-passed, is-accepted, is-nine, is-eight}
 
@@ -205,17 +205,23 @@ module _ (E : Edition) (pass salt : List ℕ) (iter : ℕ) (K L iv body : List �
   abbrev w : Writing
   w = writingOf E pass salt iter K L iv body room
 
-  pub write-first : (k : ℕ) → First k tests → w ≡ unwritten k room
+  write-first : (k : ℕ) → First k tests → w ≡ unwritten k room
   unfolding writingOf
   write-first k f = first-stops (λ (k : ℕ). unwritten k room) (written E pass salt iter K L iv body room) k tests f
 
-  pub write-told : (w .number ≡ 0 → ⊥) → First (w .number) tests × (w .number ≤ 10) × (w .output ≡ zeros room)
-  unfolding writingOf written unwritten writeTests earlyWriteTests
+  pub write-told : (w .number ≡ 0 → ⊥) → First (w .number) tests × (w .output ≡ zeros room)
+  unfolding writingOf written unwritten
   write-told h = go (decide (λ (k : ℕ). unwritten k room) (written E pass salt iter K L iv body room) tests)
     where
-      go : Decided (λ (k : ℕ). unwritten k room) tests (written E pass salt iter K L iv body room) → First (w .number) tests × (w .number ≤ 10) × (w .output ≡ zeros room)
+      go : Decided (λ (k : ℕ). unwritten k room) tests (written E pass salt iter K L iv body room) → First (w .number) tests × (w .output ≡ zeros room)
       go (passes t e) = absurd (h (ap (λ (x : Writing). x .number) e))
       go (stops k f e) =
-          let b = first-between 1 10 k {ts = tests} refl f in
           let z : w .number ≡ k = ap (λ (x : Writing). x .number) e in
-          (subst (λ (m : ℕ). First m tests) (sym z) f, omega arith, ap (λ (x : Writing). x .output) e)
+          (subst (λ (m : ℕ). First m tests) (sym z) f, ap (λ (x : Writing). x .output) e)
+
+  pub write-fails : (k : ℕ) → 1 ≤ k → (w .number ≡ k) ↔ First k tests
+  unfolding unwritten
+  write-fails k a = (
+    λ e. subst (λ (m : ℕ). First m tests) e (write-told (λ z. omega arith) .0),
+    λ f. ap (λ (x : Writing). x .number) (write-first k f),
+  )

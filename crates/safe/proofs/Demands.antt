@@ -4,7 +4,7 @@ use Prim.Native.Nat.{ℕ, _+_, _-_, _/_, _<_, _≤_}
 use mathlib.Core.Path.{_≡_, refl, sym, ap, _∙_, subst}
 use mathlib.Core.Logic.{_↔_}
 use mathlib.Core.Bool.{true}
-use mathlib.Core.List.{List, [], _++_, map}
+use mathlib.Core.List.{List, [], _∷_, _++_, map}
 use native.Mathlib.Omega.{arith}
 use lib.ListN.{length, take, drop}
 use Rattle.words.specs.Numbers.{Bytes, numberLow, bytesLow}
@@ -34,7 +34,7 @@ use Rattle.file.specs.Layout.{split, join, glue, listed, tag, marker}
 use Rattle.file.specs.Refusals.{First, rising}
 use Rattle.file.specs.Description.{IsSafe, wrapped, cbc, partsOf, fileOf}
 use Rattle.file.specs.Reading.{Report, refused, workspaceOf, earlyTests, readingOf}
-use Rattle.file.specs.Writing.{Writing, unwritten, writeTests, writingOf}
+use Rattle.file.specs.Writing.{Writing, writeTests, writingOf}
 use Rattle.file.proofs.Accepted as Accepted
 use Rattle.file.proofs.Accepted.{Answers}
 use Rattle.file.proofs.Written as Written
@@ -70,29 +70,28 @@ demand1 file passphrase ceiling room = (
   λ h. (Ends.bare v3 file passphrase ceiling room h, work-refused room (readingOf v3 file passphrase ceiling room) (told v3 file passphrase ceiling room) h),
 )
 
--- of every call
-module _ {file passphrase before after : List ℕ} {ceiling : ℕ} {r : Reading} (c : Reads file passphrase ceiling before after r) where
+-- of every call of `read`
+module _ (file passphrase : List ℕ) (ceiling : ℕ) {before after : List ℕ} {r : Reading} (c : Reports (readingOf v3 file passphrase ceiling (length before)) before after r) where
   pub demand1-number : numberOf r ≤ 9
-  demand1-number = rw (number-is (c .contract)) (demand1 file passphrase ceiling (length before) .0)
+  demand1-number = rw (number-is c) (demand1 file passphrase ceiling (length before) .0)
 
   pub demand1-refused : (numberOf r ≡ 0 → ⊥)
       → (r .k ≡ zeros 32) × (r .l ≡ zeros 32) × (headersIn (r .outcome) ≡ 0) × (recordsIn (r .outcome) ≡ 0) × (after ≡ zeros (length before))
   unfolding refused
   demand1-refused h =
-      let d = demand1 file passphrase ceiling (length before) .1 (λ e. h (number-is (c .contract) ∙ e)) in (
-        k-is (c .contract) ∙ ap (λ (t : Report). t .keyK) (d .0),
-        l-is (c .contract) ∙ ap (λ (t : Report). t .keyL) (d .0),
-        headers-are (c .contract) ∙ ap (λ (t : Report). t .headers) (d .0),
-        records-are (c .contract) ∙ ap (λ (t : Report). t .records) (d .0),
-        c .contract .memory ∙ d .1,
+      let d = demand1 file passphrase ceiling (length before) .1 (λ e. h (number-is c ∙ e)) in (
+        k-is c ∙ ap (λ (t : Report). t .keyK) (d .0),
+        l-is c ∙ ap (λ (t : Report). t .keyL) (d .0),
+        headers-are c ∙ ap (λ (t : Report). t .headers) (d .0),
+        records-are c ∙ ap (λ (t : Report). t .records) (d .0),
+        c .memory ∙ d .1,
       )
 
 -- Writing refused: all zero.
 pub demand1-write : {passphrase salt : List ℕ} {iter : ℕ} {K L iv body before after : List ℕ} {r : Written} → Writes passphrase salt iter K L iv body before after r
-    → (writtenNumber r ≡ 0 → ⊥) → (writtenNumber r ≤ 10) × (after ≡ zeros (length before))
+    → (writtenNumber r ≡ 0 → ⊥) → after ≡ zeros (length before)
 demand1-write {passphrase} {salt} {iter} {K} {L} {iv} {body} {before} c h =
-    let d = Ends.write-told v3 passphrase salt iter K L iv body (length before) (λ e. h (c .number ∙ e)) in
-    (rw (c .number) (d .1), c .output ∙ d .2)
+    c .output ∙ Ends.write-told v3 passphrase salt iter K L iv body (length before) (λ e. h (c .number ∙ e)) .1
 
 -- ==== DEMAND 2. The reader accepts exactly the files that the format describes.
 
@@ -105,17 +104,18 @@ body-described body data-bytes = (λ w. w, λ w. w)
 pub file-described : {passphrase file salt : List ℕ} {iter : ℕ} {K L iv body : List ℕ} (z : IsSafe v3 passphrase file salt iter K L iv body)
     → let P′ = keyOf (stretchedOf iter (startOf passphrase salt)) in
     file
-    ≡ tag
-    ++ (salt
-    ++ (bytesLow 4 iter
-    ++ (sha256 P′
-    ++ (encipher (ecbE twofishCipher P′) 4 (zeros 16) (K ++ L)
-    ++ (iv
-    ++ (encipher (cbcE twofishCipher K) (length body / 16) iv body
-    ++ (marker
-    ++ (hmacOf L (z .covered)
-    ++ []))))))))
-unfolding v3 stretchedV3 fileOf partsOf join glue listed wrapped cbc
+    ≡ glue
+    (tag
+    ∷ salt
+    ∷ bytesLow 4 iter
+    ∷ sha256 P′
+    ∷ encipher (ecbE twofishCipher P′) 4 (zeros 16) (K ++ L)
+    ∷ iv
+    ∷ encipher (cbcE twofishCipher K) (length body / 16) iv body
+    ∷ marker
+    ∷ hmacOf L (z .covered)
+    ∷ [])
+unfolding v3 stretchedV3 fileOf partsOf join listed wrapped cbc
 file-described {passphrase} {file} {salt} {iter} z = rw (← (step-key (stretchedOf iter (startOf passphrase salt)))) (z .is-file)
 
 -- Accepted with K, L and a body exactly when the file is a safe of that body with those keys, ITER is at most the ceiling and the workspace holds the body.
@@ -302,17 +302,18 @@ module _ (passphrase salt : List ℕ) (iter : ℕ) (K L iv body : List ℕ) (roo
   pub writing-rises : rising 1 (writeTests v3 passphrase iter K iv body room) ≡ true
   writing-rises = write-rises v3 passphrase iter K iv body room
 
-  pub writing-first : (k : ℕ) → First k (writeTests v3 passphrase iter K iv body room) → writingOf v3 passphrase salt iter K L iv body room ≡ unwritten k room
-  writing-first = Ends.write-first v3 passphrase salt iter K L iv body room
+  pub writing-first : (k : ℕ) → 1 ≤ k → (writingOf v3 passphrase salt iter K L iv body room .number ≡ k) ↔ First k (writeTests v3 passphrase iter K iv body room)
+  writing-first = Ends.write-fails v3 passphrase salt iter K L iv body room
 
 -- ==== NO SECOND ANSWER. Each public call's contract determines its answer and its lent memory afterwards for every input: no second answer satisfies it.
-pub one-read : {report : Report} {before after after′ : List ℕ} {r r′ : Reading} → Reports report before after r → Reports report before after′ r′
-    → (r ≡ r′) × (after ≡ after′)
-one-read c c′ = one-report c c′ refl refl
+pub one-read : (file passphrase : List ℕ) (ceiling : ℕ) (before after after′ : List ℕ) (r r′ : Reading) → let t = readingOf v3 file passphrase ceiling (length before) in
+    Reports t before after r → Reports t before after′ r′ → (r ≡ r′) × (after ≡ after′)
+one-read file passphrase ceiling before after after′ r r′ c c′ = one-report c c′ refl refl
 
-pub one-write : {w : Writing} {after after′ : List ℕ} {r r′ : Written} → (writtenNumber r ≡ w .number) × (after ≡ w .output)
-    → (writtenNumber r′ ≡ w .number) × (after′ ≡ w .output) → (r ≡ r′) × (after ≡ after′)
-one-write {r = r} {r′ = r′} c c′ = (written-told r r′ (c .0 ∙ sym (c′ .0)), c .1 ∙ sym (c′ .1))
+pub one-write : (passphrase salt : List ℕ) (iter : ℕ) (K L iv body before after after′ : List ℕ) (r r′ : Written)
+    → let w = writingOf v3 passphrase salt iter K L iv body (length before) in
+    (writtenNumber r ≡ w .number) × (after ≡ w .output) → (writtenNumber r′ ≡ w .number) × (after′ ≡ w .output) → (r ≡ r′) × (after ≡ after′)
+one-write passphrase salt iter K L iv body before after after′ r r′ c c′ = (written-told r r′ (c .0 ∙ sym (c′ .0)), c .1 ∙ sym (c′ .1))
 
 pub one-walk : (body : List ℕ) (c : Cursor) (r r′ : Walked) → r ≡ walkOf body c → r′ ≡ walkOf body c → r ≡ r′
 one-walk = walk-one
