@@ -34,7 +34,7 @@ module _ (E : Edition) (X : Laws E) where
     abbrev key : Stretched
     key = E .stretched pass (split file .salt) (numberLow (split file .iter))
 
-    compressed : key .count ≡ compressionsOf (length pass) (numberLow (split file .iter))
+    pub compressed : key .count ≡ compressionsOf (length pass) (numberLow (split file .iter))
     compressed =
         let e = early E file pass ceiling room h in
         let g = good-length (length file) (e .t1) in

@@ -8,4 +8,5 @@ pub mod Accepted
 pub mod Written
 pub mod Alike
 pub mod Told
+pub mod Ends
 pub mod Prefix

@@ -9,7 +9,7 @@ use lib.ListN.{length, drop}
 use Rattle.words.specs.Numbers.{numberLow}
 use Rattle.chain.specs.Opening.{Opening}
 use Rattle.file.specs.Layout.{Parts, split, tag, differ, firstMarker}
-use Rattle.file.specs.Refusals.{First}
+use Rattle.file.specs.Refusals.{Pass, First}
 use Rattle.file.specs.Edition.{Edition, Stretched}
 use Rattle.file.specs.Reading.{Report, refused, accepted, badLength, earlyTests, keyK, keyL, bodyOf, bodyTests, judged, checked, readingOf}
 use Rattle.file.proofs.Tables.{Decided, passes, stops, decide, all-pass, first-stops, first-between}
@@ -44,12 +44,16 @@ module _ (E : Edition) (file pass : List ℕ) (ceiling room : ℕ) where
       all-pass (λ (k : ℕ). refused k 0 0) _ (earlyTests E p n file pass ceiling room)
       (e .t1, (e .t2, (e .t3, (e .t4, (e .t5, (e .t6, (e .t7, tt)))))))
 
+  pub as-early : Pass (earlyTests E p n file pass ceiling room) → Early E p n file pass ceiling room
+  unfolding earlyTests
+  as-early t = record { t1 = t .0; t2 = t .1 .0; t3 = t .1 .1 .0; t4 = t .1 .1 .1 .0; t5 = t .1 .1 .1 .1 .0; t6 = t .1 .1 .1 .1 .1 .0; t7 = t .1 .1 .1 .1 .1 .1 .0 }
+
   pub early : Late (readingOf E file pass ceiling room .number) → Early E p n file pass ceiling room
   unfolding readingOf earlyTests refused
   early h = go (decide (λ (k : ℕ). refused k 0 0) (checked E p s n) (earlyTests E p n file pass ceiling room))
     where
       go : Decided (λ (k : ℕ). refused k 0 0) (earlyTests E p n file pass ceiling room) (checked E p s n) → Early E p n file pass ceiling room
-      go (passes t e) = record { t1 = t .0; t2 = t .1 .0; t3 = t .1 .1 .0; t4 = t .1 .1 .1 .0; t5 = t .1 .1 .1 .1 .0; t6 = t .1 .1 .1 .1 .1 .0; t7 = t .1 .1 .1 .1 .1 .1 .0 }
+      go (passes t e) = as-early t
       go (stops k f e) =
           let b = first-between 1 7 k {ts = earlyTests E p n file pass ceiling room} refl f in
           absurd (h k (b .0) (b .1) (ap (λ (r : Report). r .number) e))

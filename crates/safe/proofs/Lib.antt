@@ -1,7 +1,13 @@
 pub mod V3Laws
-pub mod Slots
-pub mod Opened
-pub mod Sealing
-pub mod Verdicts
-pub mod Laying
-pub mod Writes
+mod Slots
+mod Opened
+mod Sealing
+mod Verdicts
+mod Laying
+mod Writes
+pub mod Calls
+mod Contracts
+mod Acceptance
+mod Stretching
+pub mod Instances
+pub mod Demands

@@ -1,0 +1,80 @@
+-- A call of `read` and a call of `write`, each by the predicate of its contract, and the words in which the demands speak of a file.
+use Prim.Native.Nat.{ℕ, _+_, _-_, _/_, _≤_}
+use mathlib.Core.Path.{_≡_}
+use mathlib.Core.List.{List, _++_}
+use lib.ListN.{length, take, drop}
+use Rattle.words.specs.Numbers.{Bytes, numberLow}
+use Rattle.words.specs.Slices.{zeros}
+use Rattle.sha256.specs.Sha256.{sha256}
+use Rattle.stretch.specs.Stretch.{startOf, stretchedOf, keyOf}
+use Rattle.chain.specs.Opening.{Opening}
+use Rattle.file.specs.Layout.{split}
+use Rattle.file.specs.Reading.{keyK, bodyOf, readingOf}
+use Rattle.file.specs.Writing.{writingOf}
+use Rattle.file.proofs.Written.{Values}
+use Rattle.safe.specs.V3.{v3, stretchedV3}
+use Rattle.safe.specs.Answers.{outcomeNumber, writtenNumber}
+use Rattle.safe.specs.Steps.{Reports}
+use Rattle.safe.specs.declared.Reading.{Reading}
+use Rattle.safe.specs.declared.Written.{Written}
+
+-- What stands in a file (document 01, "The file, by offset"), and n, the blocks of its body.
+abbrev pub saltIn : List ℕ → List ℕ
+saltIn file = take 32 (drop 4 file)
+
+abbrev pub iterIn : List ℕ → ℕ
+iterIn file = numberLow (take 4 (drop 36 file))
+
+abbrev pub checkIn : List ℕ → List ℕ
+checkIn file = take 32 (drop 40 file)
+
+abbrev pub ivIn : List ℕ → List ℕ
+ivIn file = take 16 (drop 136 file)
+
+abbrev pub encryptedIn : List ℕ → List ℕ
+encryptedIn file = take (length file - 200) (drop 152 file)
+
+abbrev pub blocksIn : List ℕ → ℕ
+blocksIn file = (length file - 200) / 16
+
+-- P', and that a passphrase matches: SHA-256 of P' is the file's bytes 40 to 71.
+abbrev pub stretchedIn : (passphrase file : List ℕ) → List ℕ
+stretchedIn passphrase file = keyOf (stretchedOf (iterIn file) (startOf passphrase (saltIn file)))
+
+abbrev pub Matching : (passphrase file : List ℕ) → Type 0
+Matching passphrase file = sha256 (stretchedIn passphrase file) ≡ checkIn file
+
+-- K as the keys' decryption gives it, and the state that the last block decrypted leaves: the text so far, and the count of the blocks that led there.
+abbrev pub keyIn : (passphrase file : List ℕ) → List ℕ
+keyIn passphrase file = keyK v3 (split file) (stretchedV3 passphrase (saltIn file) (iterIn file))
+
+abbrev pub lastState : (passphrase file : List ℕ) → Opening
+lastState passphrase file = bodyOf v3 (split file) (stretchedV3 passphrase (saltIn file) (iterIn file)) (blocksIn file)
+
+-- the number of an answer, 0 where it is an acceptance; and the numbers 1 to 7, which come before any work
+abbrev pub numberOf : Reading → ℕ
+numberOf r = outcomeNumber (r .outcome)
+
+abbrev pub OneToSeven : ℕ → Type 0
+OneToSeven n = (1 ≤ n) × (n ≤ 7)
+
+-- `read` was given a file, a passphrase, a ceiling and a workspace, answered r and left the workspace as `after`: its contract says no more than this.
+-- A slice holds bytes.
+pub record Reads (file passphrase : List ℕ) (ceiling : ℕ) (before after : List ℕ) (r : Reading) : Type 0 where
+  pub bytes : Bytes file
+  pub contract : Reports (readingOf v3 file passphrase ceiling (length before)) before after r
+
+-- r is an acceptance with keys K and L, and the workspace holds the body and zeros after it
+pub record Accepts (file before after : List ℕ) (r : Reading) (K L body : List ℕ) : Type 0 where
+  pub number : numberOf r ≡ 0
+  pub givesK : r .k ≡ K
+  pub givesL : r .l ≡ L
+  pub long : length file ≡ 200 + length body
+  pub workspace : after ≡ body ++ zeros (length before - length body)
+
+-- `write` was given these values and an output, answered r and left the output as `after`. Salt, keys and initial vector are values of fixed size, and a
+-- slice holds bytes.
+pub record Writes (passphrase salt : List ℕ) (iter : ℕ) (K L iv body before after : List ℕ) (r : Written) : Type 0 where
+  pub values : Values salt iter K L iv body
+  pub number : writtenNumber r ≡ writingOf v3 passphrase salt iter K L iv body (length before) .number
+  pub output : after ≡ writingOf v3 passphrase salt iter K L iv body (length before) .output

@@ -1,0 +1,58 @@
+-- Document 01's thirteen instances marked *, as one statement over their list: all but those of the counts are computed; those are the counts' formulas.
+use Prim.Native.Nat.{ℕ, zero, _+_, _-_, _/_, _^_, _<_}
+use mathlib.Core.Path.{_≡_, refl, ap, _∙_}
+use mathlib.Core.Bool.{false}
+use mathlib.Core.List.{List, [], _∷_, map}
+use native.Mathlib.Omega.{arith}
+use lib.Dec.{ltb}
+use lib.ListN.{length, take, drop}
+use Rattle.words.specs.Numbers.{numberLow}
+use Rattle.words.specs.Rotation.{rotateRight}
+use Rattle.twofish.specs.Q.{rule0, rule1, table0, table1, q0, q1}
+use Rattle.stretch.specs.Stretch.{startOf, stepOf, stretchedOf}
+use Rattle.stretch.proofs.Counts.{stretched-count, check-count}
+use Rattle.fields.specs.Stored.{blocksOf}
+use Rattle.file.specs.Layout.{split, tag, differ}
+use Rattle.file.specs.Refusals.{here, later}
+use Rattle.file.specs.Reading.{refused, badLength, earlyTests, readingOf}
+use Rattle.file.proofs.Passed.{refused-first}
+use Rattle.safe.specs.V3.{v3}
+
+-- (by the definitions, by document 01), for passphrases a, b and c and a salt
+abbrev pub thirteen : (a b c salt : List ℕ) → List (ℕ × ℕ)
+thirteen a b c salt =
+    -- data lengths 0, 11, 12, 27, 28 take 1, 1, 2, 2, 3 blocks
+    (blocksOf 0, 1) ∷ (blocksOf 11, 1) ∷ (blocksOf 12, 2) ∷ (blocksOf 27, 2) ∷ (blocksOf 28, 3)
+    -- q0 of 0 is A9; q1 of 0 is 75
+    ∷ (q0 0, 0xA9) ∷ (q1 0, 0x75)
+    -- first hash, passphrase 23: 1 block; 24: 2; 1,024: 17
+    ∷ (startOf a salt .count, 1) ∷ (startOf b salt .count, 2) ∷ (startOf c salt .count, 17)
+    -- ITER 2,048, passphrase 24: 2,051 compressions
+    ∷ (stepOf (stretchedOf 2048 (startOf b salt)) .count, 2051)
+    -- bytes FF 07 00 00 are ITER 2,047; 00 08 00 00 are 2,048
+    ∷ (numberLow (0xFF ∷ 0x07 ∷ 0x00 ∷ 0x00 ∷ []), 2047) ∷ (numberLow (0x00 ∷ 0x08 ∷ 0x00 ∷ 0x00 ∷ []), 2048)
+    ∷ []
+
+first-count : (p salt : List ℕ) (n : ℕ) → length p < 2 ^ 32 → length salt ≡ 32 → (length p + 40) / 64 + 1 ≡ n → startOf p salt .count ≡ n
+unfolding stretchedOf
+first-count p salt n h s e = stretched-count zero p salt s (omega arith) ∙ omega arith
+
+pub instances : (a b c salt : List ℕ) → length a ≡ 23 → length b ≡ 24 → length c ≡ 1024 → length salt ≡ 32
+    → map (λ i. i .0) (thirteen a b c salt) ≡ map (λ i. i .1) (thirteen a b c salt)
+unfolding rotateRight rule0 rule1 table0 table1 numberLow
+instances a b c salt la lb lc ls =
+    rw (
+      check-count 2048 b salt ls (omega arith),
+      lb,
+      first-count a salt 1 (omega arith) ls (omega arith),
+      first-count b salt 2 (omega arith) ls (omega arith),
+      first-count c salt 17 (omega arith) ls (omega arith),
+    )
+
+-- and ITER 2,047 is refusal 5, where 1 to 4 are passed
+pub below-floor : (file passphrase : List ℕ) (ceiling room : ℕ) → badLength (length file) ≡ false → ltb 1024 (length passphrase) ≡ false
+    → ltb room (length file - 200) ≡ false → differ (take 4 file) tag ≡ false → take 4 (drop 36 file) ≡ 0xFF ∷ 0x07 ∷ 0x00 ∷ 0x00 ∷ []
+    → readingOf v3 file passphrase ceiling room ≡ refused 5 0 0
+unfolding earlyTests split v3 numberLow
+below-floor file passphrase ceiling room t1 t2 t3 t4 e =
+    refused-first v3 file passphrase ceiling room 5 (later t1 (later t2 (later t3 (later t4 (here refl (ap (λ (l : List ℕ). ltb (numberLow l) 2048) e))))))
