@@ -13,7 +13,7 @@ use Rattle.fields.specs.declared.Cursor.{Cursor}
 use Rattle.fields.specs.declared.Field.{Field}
 use Rattle.fields.specs.declared.Walked.the-variants.{Took}
 use Rattle.body.specs.Decision.{wellFormed, coveredOf}
-use Rattle.body.proofs.Along.{Along, along-start, along-took, coveredFrom, dataOf, covered-took, covered-end, data-inside}
+use Rattle.body.proofs.Along.{Along, along-start, along-took, coveredFrom, dataOf, covered-took, covered-stop, data-inside}
 
 pub record Sealing (l s : List ℕ) (st : Mac) (c : Cursor) : Type 0 where
   pub taken : List ℕ
@@ -41,5 +41,5 @@ module _ (l s : List ℕ) (st : Mac) (c : Cursor) (x : Sealing l s st c) (f : Fi
 
 pub sealing-end : (l s : List ℕ) (st : Mac) (c : Cursor) {r : List ℕ} → Sealing l s st c → length s ≤ c .place → MacEnds st r → r ≡ hmacOf l (coveredOf s)
 sealing-end l s st c x h t =
-    let a : x .taken ≡ coveredOf s = sym (append-nil (x .taken)) ∙ ap (λ (y : List ℕ). x .taken ++ y) (sym (covered-end s c h)) ∙ x .rest in
+    let a : x .taken ≡ coveredOf s = sym (append-nil (x .taken)) ∙ ap (λ (y : List ℕ). x .taken ++ y) (sym (covered-stop s c h)) ∙ x .rest in
     t l (x .taken) (x .state) ∙ ap (hmacOf l) a
