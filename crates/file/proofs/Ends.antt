@@ -1,11 +1,12 @@
 -- How a reading ends: at the first early test that fails, at the check, at the body, or accepted; and what each end says. By the table of tests, and
 -- then by the tests 8 and 9.
-use Prim.Native.Nat.{ℕ, _+_, _-_, _/_, _≤_}
+use Prim.Native.Nat.{ℕ, _-_, _/_, _≤_}
 use mathlib.Core.Path.{_≡_, refl, sym, ap, _∙_, subst}
 use mathlib.Core.Logic.{_↔_}
 use mathlib.Core.Bool.{Bool, true, false, _&&_, _||_, false≢true, true≢false}
 use mathlib.Core.List.{List, [], _∷_}
 use native.Mathlib.Omega.{arith}
+use native.Mathlib.Nat.{sub-zero}
 use lib.Dec.{eqb, ltb}
 use lib.ListN.{length}
 use borrow.Author.Tests.{ltb-false, le-ltb, eq-eqb, eqb-true, eqb-false}
@@ -13,10 +14,10 @@ use Rattle.words.specs.Numbers.{numberLow}
 use Rattle.words.specs.Slices.{zeros}
 use Rattle.chain.specs.Opening.{Opening}
 use Rattle.file.specs.Layout.{Parts, split, differ}
-use Rattle.file.specs.Refusals.{Test, First, here, later}
+use Rattle.file.specs.Refusals.{Test, First, here, later, rising}
 use Rattle.file.specs.Edition.{Edition, Stretched}
-use Rattle.file.specs.Reading.{Report, refused, accepted, earlyTests, keyK, keyL, bodyOf, checked, readingOf}
-use Rattle.file.specs.Writing.{Writing, unwritten, writeTests, written, writingOf}
+use Rattle.file.specs.Reading.{Report, refused, accepted, workspaceOf, earlyTests, keyK, keyL, bodyOf, checked, readingOf}
+use Rattle.file.specs.Writing.{Writing, unwritten, earlyWriteTests, writeTests, written, writingOf}
 use Rattle.file.proofs.Tables.{Decided, passes, stops, decide, first-stops, first-between}
 use Rattle.file.proofs.Passed.{Late, Early, as-early, early, passed-early, refused-first, Matches, Whole, late-passed, is-accepted, is-nine, is-eight}
 
@@ -80,6 +81,11 @@ module _ (E : Edition) (file pass : List ℕ) (ceiling room : ℕ) where
           let b = first-between 1 7 k {ts = earlyTests E p n file pass ceiling room} refl f in
           stopped k (b .0) (b .1) f e
 
+  -- by rising number
+  pub early-rises : rising 1 (earlyTests E p n file pass ceiling room) ≡ true
+  unfolding earlyTests
+  early-rises = refl
+
   -- a number of 1 to 7 is that of the first test that fails
   pub first-fails : (k : ℕ) → 1 ≤ k → k ≤ 7 → (r .number ≡ k) ↔ First k (earlyTests E p n file pass ceiling room)
   unfolding refused accepted
@@ -134,6 +140,11 @@ module _ (E : Edition) (file pass : List ℕ) (ceiling room : ℕ) where
       go (broken e m q) = so r 9 (s .count) (o .count) q
       go (whole e m w q) = absurd (h (ap num q))
 
+  -- refused: every byte of the workspace is zero
+  pub zeros-left : (r .number ≡ 0 → ⊥) → workspaceOf room r ≡ zeros room
+  unfolding workspaceOf refused
+  zeros-left h = ap (workspaceOf room) (bare h) ∙ rw (sub-zero room)
+
   -- accepted: the counts of header fields and records are those of the body
   pub fields-counted : r .number ≡ 0 → (r .headers ≡ E .headers (r .body)) × (r .records ≡ E .records (r .body))
   unfolding refused accepted
@@ -147,6 +158,17 @@ module _ (E : Edition) (file pass : List ℕ) (ceiling room : ℕ) where
         ap (λ (t : Report). t .headers) q ∙ sym (ap (λ (t : Report). E .headers (t .body)) q),
         ap (λ (t : Report). t .records) q ∙ sym (ap (λ (t : Report). E .records (t .body)) q),
       )
+
+  -- 1 to 7: no work was done
+  pub early-counts : 1 ≤ r .number → r .number ≤ 7 → (r .compressions ≡ 0) × (r .blocks ≡ 0)
+  unfolding refused accepted
+  early-counts a b = go ends
+    where
+      go : Ends → (r .compressions ≡ 0) × (r .blocks ≡ 0)
+      go (stopped k c d f q) = (ap (λ (t : Report). t .compressions) q, ap (λ (t : Report). t .blocks) q)
+      go (unmatched e m q) = absurd (let z : r .number ≡ 8 = ap num q in omega arith)
+      go (broken e m q) = absurd (let z : r .number ≡ 9 = ap num q in omega arith)
+      go (whole e m w q) = absurd (let z : r .number ≡ 0 = ap num q in omega arith)
 
   -- 8: no block was decrypted
   pub eight-blocks : r .number ≡ 8 → r .blocks ≡ 0
@@ -204,6 +226,10 @@ module _ (E : Edition) (pass salt : List ℕ) (iter : ℕ) (K L iv body : List �
 
   abbrev w : Writing
   w = writingOf E pass salt iter K L iv body room
+
+  pub write-rises : rising 1 tests ≡ true
+  unfolding writeTests earlyWriteTests
+  write-rises = refl
 
   write-first : (k : ℕ) → First k tests → w ≡ unwritten k room
   unfolding writingOf

@@ -7,6 +7,6 @@ pub mod Passed
 pub mod Accepted
 pub mod Written
 pub mod Alike
-pub mod Told
 pub mod Ends
+pub mod Decrypted
 pub mod Prefix

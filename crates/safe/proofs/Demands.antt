@@ -6,7 +6,7 @@ use mathlib.Core.Logic.{_↔_}
 use mathlib.Core.Bool.{true}
 use mathlib.Core.List.{List, [], _∷_, _++_, map}
 use native.Mathlib.Omega.{arith}
-use lib.ListN.{length, take, drop}
+use lib.ListN.{length, take}
 use Rattle.words.specs.Numbers.{Bytes, numberLow, bytesLow}
 use Rattle.words.specs.Slices.{zeros}
 use Rattle.sha256.specs.Sha256.{sha256}
@@ -40,8 +40,8 @@ use Rattle.file.proofs.Accepted.{Answers}
 use Rattle.file.proofs.Written as Written
 use Rattle.file.proofs.Passed.{Late, early}
 use Rattle.file.proofs.Alike.{count-opened, compressed, matched, alike-matched, alike-unmatched}
-use Rattle.file.proofs.Told.{told, work-refused, counts-early, whole-body, early-rises, write-rises}
 use Rattle.file.proofs.Ends as Ends
+use Rattle.file.proofs.Decrypted.{whole-body}
 use Rattle.file.proofs.Prefix.{no-prefix}
 use Rattle.safe.specs.V3.{v3, stretchedV3}
 use Rattle.safe.specs.Answers.{headersIn, recordsIn, writtenNumber}
@@ -67,11 +67,12 @@ pub demand1 : (file passphrase : List ℕ) (ceiling room : ℕ) → let t = read
     (t .number ≤ 9) × ((t .number ≡ 0 → ⊥) → (t ≡ refused (t .number) (t .compressions) (t .blocks)) × (workspaceOf room t ≡ zeros room))
 demand1 file passphrase ceiling room = (
   Ends.nine-most v3 file passphrase ceiling room,
-  λ h. (Ends.bare v3 file passphrase ceiling room h, work-refused room (readingOf v3 file passphrase ceiling room) (told v3 file passphrase ceiling room) h),
+  λ h. (Ends.bare v3 file passphrase ceiling room h, Ends.zeros-left v3 file passphrase ceiling room h),
 )
 
 -- of every call of `read`
-module _ (file passphrase : List ℕ) (ceiling : ℕ) {before after : List ℕ} {r : Reading} (c : Reports (readingOf v3 file passphrase ceiling (length before)) before after r) where
+module _ (file passphrase : List ℕ) (ceiling : ℕ) {before after : List ℕ} {r : Reading}
+    (c : Reports (readingOf v3 file passphrase ceiling (length before)) before after r) where
   pub demand1-number : numberOf r ≤ 9
   demand1-number = rw (number-is c) (demand1 file passphrase ceiling (length before) .0)
 
@@ -242,7 +243,7 @@ module _ (file passphrase : List ℕ) (ceiling room : ℕ) where
 
   -- They are 0 for refusals 1 to 7.
   pub counts-stopped : OneToSeven (t .number) → (t .compressions ≡ 0) × (t .blocks ≡ 0)
-  counts-stopped h = counts-early t (told v3 file passphrase ceiling room) (h .0) (h .1)
+  counts-stopped h = Ends.early-counts v3 file passphrase ceiling room (h .0) (h .1)
 
   -- The first is otherwise c + ITER + 1, with c = (passphrase length + 40) / 64 rounded down, plus 1.
   pub counts-compressions : Bytes file → (OneToSeven (t .number) → ⊥) → t .compressions ≡ (length passphrase + 40) / 64 + 1 + iterIn file + 1
@@ -257,7 +258,9 @@ module _ (file passphrase : List ℕ) (ceiling room : ℕ) where
   module _ (past : OneToSeven (t .number) → ⊥) (checked : t .number ≡ 8 → ⊥) where
     -- else 4 + n.
     pub counts-blocks : t .blocks ≡ 4 + blocksIn file
-    counts-blocks = Ends.blocks-held v3 file passphrase ceiling room (late past) checked ∙ count-opened v3 v3-laws (split file) (v3 .stretched passphrase (split file .salt) (numberLow (split file .iter))) (blocksIn file)
+    counts-blocks =
+        Ends.blocks-held v3 file passphrase ceiling room (late past) checked
+        ∙ count-opened v3 v3-laws (split file) (v3 .stretched passphrase (split file .salt) (numberLow (split file .iter))) (blocksIn file)
 
     -- Unless the reading ends in 1 to 8, the state that the count belongs to, before any zeroing, is the whole body decrypted, of which nothing is left.
     pub counts-state : Bytes file → let o = lastState passphrase file in
@@ -281,7 +284,7 @@ module _ (file passphrase : List ℕ) (ceiling room : ℕ) where
 
   -- ==== ORDER. Reading and writing by rising number.
   pub reading-rises : rising 1 (earlyTests v3 (split file) (blocksIn file) file passphrase ceiling room) ≡ true
-  reading-rises = early-rises v3 (split file) (blocksIn file) file passphrase ceiling room
+  reading-rises = Ends.early-rises v3 file passphrase ceiling room
 
   -- A number of 1 to 7 is that of the first test that fails;
   pub reading-first : (k : ℕ) → 1 ≤ k → k ≤ 7 → (t .number ≡ k) ↔ First k (earlyTests v3 (split file) (blocksIn file) file passphrase ceiling room)
@@ -300,7 +303,7 @@ module _ (file passphrase : List ℕ) (ceiling room : ℕ) where
 
 module _ (passphrase salt : List ℕ) (iter : ℕ) (K L iv body : List ℕ) (room : ℕ) where
   pub writing-rises : rising 1 (writeTests v3 passphrase iter K iv body room) ≡ true
-  writing-rises = write-rises v3 passphrase iter K iv body room
+  writing-rises = Ends.write-rises v3 passphrase salt iter K L iv body room
 
   pub writing-first : (k : ℕ) → 1 ≤ k → (writingOf v3 passphrase salt iter K L iv body room .number ≡ k) ↔ First k (writeTests v3 passphrase iter K iv body room)
   writing-first = Ends.write-fails v3 passphrase salt iter K L iv body room

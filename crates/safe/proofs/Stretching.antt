@@ -1,14 +1,12 @@
 -- The test of the passphrase says that SHA-256 of P' is what stands in the file: the check is one step of the stretcher more, and such a step is a hash.
 use Prim.Native.Nat.{ℕ}
-use mathlib.Core.Path.{_≡_, sym, _∙_}
+use mathlib.Core.Path.{sym, _∙_}
 use mathlib.Core.Logic.{_↔_}
 use mathlib.Core.List.{List}
-use lib.ListN.{take, drop}
 use Rattle.words.specs.Numbers.{numberLow}
 use Rattle.stretch.specs.Stretch.{startOf, stepOf, stretchedOf, keyOf}
 use Rattle.stretch.proofs.Counts.{step-key}
-use Rattle.file.specs.Layout.{Parts, split}
-use Rattle.file.specs.Edition.{Stretched}
+use Rattle.file.specs.Layout.{split}
 use Rattle.file.proofs.Glue.{same-of, same-is}
 use Rattle.file.proofs.Passed.{Matches}
 use Rattle.safe.specs.V3.{v3, stretchedV3}
