@@ -4,7 +4,7 @@ use mathlib.Core.Path.{_≡_, refl}
 use mathlib.Core.Bool.{Bool, true, false, cond, _||_, Bool·beq}
 use lib.Dec.{eqb, ltb}
 use Rattle.fields.specs.Value.{among}
-use Rattle.fields.proofs.Table.{at}
+use Rattle.words.proofs.Every.{every}
 use Rattle.body.specs.Tally.{once}
 use Rattle.body.proofs.Sums.{alike}
 
@@ -12,7 +12,7 @@ pub header-once : (k : ℕ) → k < 256
     → among k (once false) ≡ cond (ltb k 0x0c) true (cond (eqb k 0x0f) true (cond (eqb k 0x10) true (eqb k 0x13)))
 unfolding once
 header-once k h =
-    alike _ _ (at (λ (k : ℕ). Bool·beq (among k (once false)) (cond (ltb k 0x0c) true (cond (eqb k 0x0f) true (cond (eqb k 0x10) true (eqb k 0x13))))) 256 tt k h)
+    alike _ _ (every (λ (k : ℕ). Bool·beq (among k (once false)) (cond (ltb k 0x0c) true (cond (eqb k 0x0f) true (cond (eqb k 0x10) true (eqb k 0x13))))) 256 tt k h)
 
 pub record-once : (k : ℕ) → among k (once true) ≡ cond (eqb k 0x01) true (cond (eqb k 0x03) true (eqb k 0x06))
 unfolding once

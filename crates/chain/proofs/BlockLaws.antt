@@ -7,7 +7,7 @@ use lib.ListN.{length}
 use Rattle.words.specs.Numbers.{bytesLow, Sized}
 use Rattle.words.specs.Xor.{xored}
 use Rattle.words.proofs.NumberLaws.{bytes-sized}
-use Rattle.words.proofs.XorLaws.{xored-append}
+use Rattle.words.proofs.XorLaws.{xored-append, bytes-xor}
 use Rattle.twofish.specs.Twofish.{blockOf, bytesOf, encryptWords, decryptWords, encryptBlock, decryptBlock}
 use Rattle.twofish.specs.declared.Block.{Block}
 use Rattle.twofish.proofs.Rounds.{Words}
@@ -17,12 +17,6 @@ use Rattle.chain.specs.Blocks.{xorBlock, sealedBlock, openedBlock, modeE
 use Rattle.chain.specs.Twofish.{twofishCipher}
 use Rattle.chain.specs.declared.Mode.{Mode}
 use Rattle.chain.specs.declared.Mode.the-variants.{Ecb, Cbc}
-
-pub bytes-xor : (n a b : ℕ) → bytesLow n (bitXor a b) ≡ xored (bytesLow n a) (bytesLow n b)
-unfolding bytesLow xored
-bytes-xor zero a b = refl
-bytes-xor (suc n) a b =
-    ap₂ _∷_ (xor-mod a b 8) (ap (bytesLow n) (xor-shr a b 8) ∙ bytes-xor n (a / 256) (b / 256))
 
 word-length : (x y : ℕ) → length (bytesLow 4 x) ≡ length (bytesLow 4 y)
 word-length x y = bytes-sized 4 x .long ∙ sym (bytes-sized 4 y .long)

@@ -1,6 +1,4 @@
-pub mod Table
 mod Shapes
-pub mod Places
 pub mod Outcomes
 mod Parts
 mod Appends

@@ -4,11 +4,12 @@ use mathlib.Core.Path.{_≡_, refl, ap, _∙_}
 use mathlib.Core.List.{List, [], _∷_, _++_, append-assoc, append-nil}
 use native.Mathlib.Omega.{arith}
 use lib.ListN.{length, take, drop, set, length-append, length-take, length-drop, drop-of-length-le}
-use lib.Seq.{take-append-seam, drop-append-seam, drop-drop, take-all}
+use lib.Seq.{take-append-seam, drop-append-seam, drop-drop}
 use borrow.Rule.Slice.PartMut.{putMid}
 use Rattle.words.specs.Numbers.{bytesLow, byteOf}
 use Rattle.words.specs.Slices.{copied}
 use Rattle.words.proofs.NumberLaws.{four-low, bytes-sized}
+use Rattle.words.proofs.SliceLaws.{copied-over}
 use Rattle.fields.specs.Stored.{stored, bytesOf}
 
 -- the four bytes of a length and the type, set one by one
@@ -27,10 +28,6 @@ extend : (w ys d : List ℕ) (i k : ℕ) → length w ≡ i → length ys ≡ k
     → take i (w ++ drop i d) ++ (ys ++ drop k (drop i (w ++ drop i d))) ≡ (w ++ ys) ++ drop (i + k) d
 extend w ys d i k h g = rw (← h, ← g, take-append-seam w, drop-append-seam w, drop-drop, append-assoc)
 
--- all of s is copied into a list as long
-whole : (s d : List ℕ) → length d ≡ length s → copied d s ≡ s
-whole s d h = rw (take-all (length d) s (omega arith), drop-of-length-le d {i = length s} (omega arith), append-nil s)
-
 -- a part of a list that reaches so far is as long as it says
 part-long : (l : List ℕ) (a n : ℕ) → a + n ≤ length l → length (take n (drop a l)) ≡ n
 part-long l a n h = simp (length-take, length-drop) (omega arith)
@@ -47,7 +44,7 @@ then : (w ys d x : List ℕ) (i k : ℕ) → length w ≡ i → k ≡ length ys 
     → putMid i k (w ++ drop i d) x ≡ (w ++ ys) ++ drop (i + length ys) d
 then w ys d x i k h g l e =
     let n : length (take (length ys) (drop i (w ++ drop i d))) ≡ length ys = part-long (w ++ drop i d) i (length ys) (simp (length-append, length-drop) (omega arith)) in
-    let z : x ≡ ys = e ∙ ap (λ (m : ℕ). copied (take m (drop i (w ++ drop i d))) ys) g ∙ whole ys (take (length ys) (drop i (w ++ drop i d))) n in
+    let z : x ≡ ys = e ∙ ap (λ (m : ℕ). copied (take m (drop i (w ++ drop i d))) ys) g ∙ copied-over (take (length ys) (drop i (w ++ drop i d))) ys n in
     ap (λ (m : ℕ). putMid i m (w ++ drop i d) x) g ∙ ap (putMid i (length ys) (w ++ drop i d)) z ∙ extend w ys d i (length ys) h refl
 
 -- the head, the data and the fill, each in its part

@@ -6,7 +6,7 @@ use lib.Dec.{T, eqb, ltb, eqb→eq}
 use Rattle.fields.specs.declared.value.Shape.{Shape}
 use Rattle.fields.specs.declared.value.Shape.the-variants as Shape
 use Rattle.fields.specs.Value.{headerShape, recordShape}
-use Rattle.fields.proofs.Table.{at}
+use Rattle.words.proofs.Every.{every}
 
 abbrev pub headerTests : ℕ → Shape
 headerTests k =
@@ -68,8 +68,8 @@ one s t h = cc (back s, back t, eqb→eq (number s) (number t) h)
 
 pub header : (k : ℕ) → k < 256 → headerShape k ≡ headerTests k
 unfolding headerShape
-header k h = one (headerShape k) (headerTests k) (at (λ (k : ℕ). eqb (number (headerShape k)) (number (headerTests k))) 256 tt k h)
+header k h = one (headerShape k) (headerTests k) (every (λ (k : ℕ). eqb (number (headerShape k)) (number (headerTests k))) 256 tt k h)
 
 pub record-type : (k : ℕ) → k < 256 → recordShape k ≡ recordTests k
 unfolding recordShape
-record-type k h = one (recordShape k) (recordTests k) (at (λ (k : ℕ). eqb (number (recordShape k)) (number (recordTests k))) 256 tt k h)
+record-type k h = one (recordShape k) (recordTests k) (every (λ (k : ℕ). eqb (number (recordShape k)) (number (recordTests k))) 256 tt k h)

@@ -19,7 +19,7 @@ use Rattle.file.specs.Reading.{keysOpened, bodyOpened}
 use Rattle.safe.specs.V3.{v3}
 use Rattle.safe.specs.Steps.{Unwrapped, Decrypted}
 use Rattle.safe.specs.declared.wrap.Keys.{Keys}
-use Rattle.safe.proofs.Slots.{copied-over}
+use Rattle.words.proofs.SliceLaws.{copied-over}
 
 module _ (d : List ℕ → List ℕ → List ℕ) (n : ℕ) (prev l : List ℕ) (c : ℕ) (h : length l ≡ 16 * n) (k : c + n < 2 ^ 64) where
   abbrev o : Opening

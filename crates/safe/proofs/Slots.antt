@@ -7,31 +7,8 @@ use native.Mathlib.Omega.{arith}
 use lib.ListN.{length, getD, take, drop, replicate, length-append, length-take, length-drop, length-replicate, drop-of-length-le, take-append-drop}
 use lib.Seq.{take-all, take-at, drop-at, drop-append-add, drop-cons, drop-drop, length-take-le}
 use Rattle.words.specs.Slices.{zeros, copied}
-use Rattle.sha256.proofs.Pieces.{drop-same}
-
--- a value of fixed size
-pub copied-whole : (n : ℕ) (s : List ℕ) → length s ≡ n → copied (replicate n 0) s ≡ s
-copied-whole n s h =
-    let z = length-replicate {A = ℕ} n 0 in
-    ap₂ _++_ (take-all (length (replicate n 0)) s (omega arith)) (drop-of-length-le (replicate n 0) {i = length s} (omega arith)) ∙ append-nil s
-
--- a part of n bytes, over as many
-pub copied-over : (d s : List ℕ) → length d ≡ length s → copied d s ≡ s
-copied-over d s h =
-    ap₂ _++_ (take-all (length d) s (omega arith)) (drop-of-length-le d {i = length s} (omega arith)) ∙ append-nil s
-
--- the four bytes from i on
-pub four-from : (i : ℕ) (l : List ℕ) → i + 4 ≤ length l
-    → take 4 (drop i l) ≡ getD l i 0 ∷ getD l (i + 1) 0 ∷ getD l (i + 2) 0 ∷ getD l (i + 3) 0 ∷ []
-four-from i l h =
-    let a : suc i ≡ i + 1 = omega arith in
-    let b : suc (i + 1) ≡ i + 2 = omega arith in
-    let c : suc (i + 2) ≡ i + 3 = omega arith in
-    let e = drop-cons l i 0 (omega arith) ∙ ap (λ (n : ℕ). getD l i 0 ∷ drop n l) a in
-    let f = drop-cons l (i + 1) 0 (omega arith) ∙ ap (λ (n : ℕ). getD l (i + 1) 0 ∷ drop n l) b in
-    let g = drop-cons l (i + 2) 0 (omega arith) ∙ ap (λ (n : ℕ). getD l (i + 2) 0 ∷ drop n l) c in
-    let k = drop-cons l (i + 3) 0 (omega arith) in
-    rw (e, f, g, k)
+use Rattle.words.proofs.SliceLaws.{copied-over}
+use Rattle.words.proofs.ByteLaws.{drop-same}
 
 -- a part p laid on zeros behind what is laid already; r′ zeros are left
 pub laid : (pre p : List ℕ) (r r′ : ℕ) {at : ℕ} {before after : List ℕ} → at ≡ length pre → r ≡ length p + r′ → before ≡ pre ++ zeros r

@@ -19,7 +19,7 @@ use Rattle.body.specs.declared.Judged.the-variants.{Counts, NotWellFormed}
 use Rattle.chain.specs.Modes.{ecbD}
 use Rattle.chain.specs.Opening.{Opening}
 use Rattle.chain.proofs.StepLaws.{opened-count}
-use Rattle.sha256.proofs.Pieces.{drop-same}
+use Rattle.words.proofs.ByteLaws.{drop-same}
 use Rattle.file.specs.Layout.{Parts, split, differ, firstMarker}
 use Rattle.file.specs.Refusals.{deciding, refuse-if}
 use Rattle.file.specs.Edition.{Stretched}

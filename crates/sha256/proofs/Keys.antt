@@ -20,7 +20,8 @@ use Rattle.sha256.specs.Hmac.{shortKey, keyBlock, keyed, hmacOf}
 use Rattle.sha256.specs.Running.{runningOf, left, room, macOf, MacTakes, MacEnds}
 use Rattle.sha256.specs.Running.{Takes as RunTakes, Ends as RunEnds}
 use Rattle.sha256.proofs.Digest.{sha256-sized}
-use Rattle.sha256.proofs.Pieces.{drop-same, same, state as runState}
+use Rattle.words.proofs.ByteLaws.{drop-same}
+use Rattle.sha256.proofs.Pieces.{same, state as runState}
 
 -- x in each of the first i bytes
 abbrev pub done : ℕ → List ℕ → ℕ → List ℕ

@@ -7,6 +7,7 @@ use native.Mathlib.Numerals.{add-one}
 use native.Mathlib.Omega.{arith}
 use lib.ListN.{length, getD, take, drop, replicate, length-append, length-drop, length-replicate, replicate-append-replicate, List·getD-append, drop-of-length-le}
 use lib.Seq.{paste, take-append-seam, take-length, take-at, drop-at, drop-append-add, drop-append-le, drop-drop}
+use Rattle.words.proofs.ByteLaws.{drop-same}
 use Rattle.sha256.specs.declared.Vars.{Vars}
 use Rattle.sha256.specs.Sha256.{wordOf, wordsOf, compressOf, valueOf}
 use Rattle.sha256.specs.declared.Running.{Running}
@@ -54,12 +55,6 @@ beyond m d p (suc n) h =
     ∙ ap₂ compressOf (beyond m d p n h) (ap (wordsOf 16) (ap (λ (x : ℕ). drop x (m ++ d)) f ∙ drop-append-add m d (n * 64)))
 
 -- ---- what is left after the whole blocks
-
-pub drop-same : (x j n : ℕ) → j ≤ n → drop {A = ℕ} j (replicate n x) ≡ replicate (n - j) x
-drop-same x j n h =
-    let e : n ≡ j + (n - j) = omega arith in
-    ap (λ (k : ℕ). drop {A = ℕ} j (replicate k x)) e ∙ ap (drop {A = ℕ} j) (sym (replicate-append-replicate j (n - j) x))
-    ∙ drop-at (replicate j x) (replicate (n - j) x) j (length-replicate j x)
 
 pub length-left : (m : List ℕ) → length (left m) ≡ length m % 64
 length-left m = length-drop (length m / 64 * 64) m ∙ omega arith

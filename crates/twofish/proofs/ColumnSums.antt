@@ -11,7 +11,7 @@ use Rattle.words.proofs.NumberLaws.{low-word}
 use Rattle.twofish.specs.Field.{_⊕_, gf, times, twice}
 use Rattle.twofish.specs.Key.{mds}
 use Rattle.twofish.specs.Columns.{half, col0, col1, col2, col3}
-use Rattle.twofish.proofs.Every.{every, agree}
+use Rattle.words.proofs.Every.{every, agree}
 
 pub is-5b : (x : ℕ) → x < 256 → x ⊕ half (half x) ≡ gf 0x169 0x5B x
 unfolding half gf times twice

@@ -1,4 +1,3 @@
-pub mod Every
 pub mod Listed
 pub mod ColumnSums
 pub mod Permutations

@@ -6,7 +6,7 @@ use lib.Dec.{T, eqb}
 use lib.ListN.{length}
 use Rattle.twofish.specs.Table.{at, table}
 use Rattle.twofish.specs.Q.{q0, q1, rule0, rule1, table0, table1}
-use Rattle.twofish.proofs.Every.{all, agree}
+use Rattle.words.proofs.Every.{all, agree}
 use Rattle.twofish.proofs.Listed.{at-table, is-table}
 
 -- a list of 256 bytes that passes the test is the full table

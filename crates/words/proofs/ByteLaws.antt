@@ -4,7 +4,7 @@ use mathlib.Core.List.{List, [], _∷_, _++_, reverse, reverseAux}
 use Prim.Native.Nat.{ℕ, zero, suc, _+_, _-_, _<_, _≤_}
 use native.Mathlib.Omega.{arith}
 use lib.Dec.{lit≤}
-use lib.ListN.{length, getD, take, drop, replicate, length-append, length-take, length-drop, length-replicate}
+use lib.ListN.{length, getD, take, drop, replicate, length-append, length-take, length-drop, length-replicate, replicate-append-replicate}
 use lib.Seq.{take-at, drop-at}
 use Rattle.words.specs.Numbers.{Bytes, none, more, Sized}
 use Rattle.words.specs.Slices.{zeros}
@@ -66,3 +66,10 @@ append-inj a b c d h e = (
   sym (take-at a c (length a) refl) ∙ ap (take (length a)) e ∙ take-at b d (length a) (sym h),
   sym (drop-at a c (length a) refl) ∙ ap (drop (length a)) e ∙ drop-at b d (length a) (sym h),
 )
+
+-- what is left of n equal elements
+pub drop-same : (x j n : ℕ) → j ≤ n → drop {A = ℕ} j (replicate n x) ≡ replicate (n - j) x
+drop-same x j n h =
+    let e : n ≡ j + (n - j) = omega arith in
+    ap (λ (k : ℕ). drop {A = ℕ} j (replicate k x)) e ∙ ap (drop {A = ℕ} j) (sym (replicate-append-replicate j (n - j) x))
+    ∙ drop-at (replicate j x) (replicate (n - j) x) j (length-replicate j x)

@@ -3,3 +3,5 @@ pub mod NumberLaws
 pub mod RotationLaws
 pub mod XorLaws
 pub mod SliceLaws
+pub mod Every
+pub mod Places

@@ -1,14 +1,14 @@
 -- What the loops over slices hold: a copy as far as it has come, and a comparison as far as it has come.
 use mathlib.Core.Path.{_≡_, refl, sym, ap, ap₂, _∙_}
 use mathlib.Core.Bool.{Bool, true, false, cond}
-use mathlib.Core.List.{List, [], _∷_, _++_}
+use mathlib.Core.List.{List, [], _∷_, _++_, append-nil}
 use Prim.Native.Nat.{ℕ, zero, suc, _+_, _<_, _≤_}
 use native.Mathlib.Omega.{arith}
 use native.Mathlib.Nat.{zero-add}
 use native.Mathlib.Numerals.{add-one}
 use borrow.Author.Tests.{eq-eqb, ne-eqb, eqb-true}
 use lib.Dec.{eqb}
-use lib.ListN.{length, getD, take, drop, drop-of-length-le}
+use lib.ListN.{length, getD, take, drop, replicate, length-replicate, drop-of-length-le}
 use lib.Seq.{paste, take-all, drop-cons, drop-length}
 use Rattle.words.specs.Slices.{copied, same}
 
@@ -24,6 +24,14 @@ copied-full d s i h k l =
     let e : i ≡ length d = omega arith in
     ap₂ (λ (k n : ℕ). take k s ++ drop n d) e (zero-add i ∙ e)
     ∙ ap (λ (l : List ℕ). take (length d) s ++ l) (drop-length d ∙ sym (drop-of-length-le d {i = length s} (omega arith)))
+
+-- a part over as many bytes, and a value over as many zeros
+pub copied-over : (d s : List ℕ) → length d ≡ length s → copied d s ≡ s
+copied-over d s h =
+    ap₂ _++_ (take-all (length d) s (omega arith)) (drop-of-length-le d {i = length s} (omega arith)) ∙ append-nil s
+
+pub copied-whole : (n : ℕ) (s : List ℕ) → length s ≡ n → copied (replicate n 0) s ≡ s
+copied-whole n s h = copied-over (replicate n 0) s (length-replicate n 0 ∙ sym h)
 
 pub same-refl : (s : List ℕ) → same s s ≡ true
 unfolding same

@@ -6,7 +6,7 @@ use native.Mathlib.Omega.{arith}
 use lib.Arith.{bin-ind}
 use lib.Bits.{bitXor, xor-shr, xor-mod, xor-self, xor-zero-r, xor-lt}
 use lib.ListN.{length}
-use Rattle.words.specs.Numbers.{Bytes, none, more, Sized}
+use Rattle.words.specs.Numbers.{bytesLow, Bytes, none, more, Sized}
 use Rattle.words.specs.Xor.{xored}
 
 -- of three digits
@@ -70,3 +70,10 @@ xored-append [] [] u v h = refl
 xored-append [] (b ∷ t) u v h = absurd (omega arith)
 xored-append (a ∷ s) [] u v h = absurd (omega arith)
 xored-append (a ∷ s) (b ∷ t) u v h = ap (λ (l : List ℕ). bitXor a b ∷ l) (xored-append s t u v (omega arith))
+
+-- the bytes of an exclusive or
+pub bytes-xor : (n a b : ℕ) → bytesLow n (bitXor a b) ≡ xored (bytesLow n a) (bytesLow n b)
+unfolding bytesLow xored
+bytes-xor zero a b = refl
+bytes-xor (suc n) a b =
+    ap₂ _∷_ (xor-mod a b 8) (ap (bytesLow n) (xor-shr a b 8) ∙ bytes-xor n (a / 256) (b / 256))

@@ -8,7 +8,7 @@ use Rattle.text.proofs.Tests.{tests}
 use Rattle.fields.specs.Stored.{roomOf}
 use Rattle.fields.specs.Value.{valueOf}
 use Rattle.fields.specs.Walk.{walkOf, lenAt, kindAt}
-use Rattle.fields.proofs.Places.{four-at}
+use Rattle.words.proofs.Places.{four-at}
 use Rattle.fields.proofs.Outcomes.{short, ended, took, built}
 use borrow.Author.Needs.{needs}
 use Rattle.fields.proofs.walk.Statement.{statement}

@@ -4,7 +4,7 @@ use lib.ListN.{length}
 use borrow.Author.Tests.{eq-eqb}
 use Rattle.text.proofs.Tests.{tests}
 use Rattle.fields.specs.declared.value.Value.the-variants as Value
-use Rattle.fields.proofs.Places.{whole-two}
+use Rattle.words.proofs.Places.{whole-two}
 use borrow.Author.Needs.{needs}
 use Rattle.fields.proofs.value.half.Statement.{statement}
 use Rattle.fields.proofs.value.half.Tie as tie

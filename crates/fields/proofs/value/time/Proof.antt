@@ -5,7 +5,7 @@ use borrow.Author.Tests.{eq-eqb}
 use Rattle.text.proofs.Tests.{tests}
 use Rattle.words.specs.Numbers.{numberLow}
 use Rattle.fields.specs.declared.value.Value.the-variants as Value
-use Rattle.fields.proofs.Places.{whole-four}
+use Rattle.words.proofs.Places.{whole-four}
 use borrow.Author.Needs.{needs}
 use Rattle.fields.proofs.value.time.Statement.{statement}
 use Rattle.fields.proofs.value.time.Tie as tie

@@ -4,7 +4,7 @@ use lib.ListN.{length}
 use borrow.Author.Tests.{eq-eqb}
 use Rattle.text.proofs.Tests.{tests}
 use native.Mathlib.Omega.{arith}
-use Rattle.fields.proofs.Places.{eight-at}
+use Rattle.words.proofs.Places.{eight-at}
 use borrow.Author.Needs.{needs}
 use Rattle.fields.proofs.value.uuid.Statement.{statement}
 use Rattle.fields.proofs.value.uuid.Tie as tie

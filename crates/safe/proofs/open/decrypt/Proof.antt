@@ -7,7 +7,7 @@ use denote.Ref.{now}
 use lib.ListN.{length, take, drop, length-drop}
 use lib.Seq.{length-take-le}
 use Rattle.file.specs.Layout.{split}
-use Rattle.safe.proofs.Slots.{copied-over}
+use Rattle.words.proofs.SliceLaws.{copied-over}
 use Rattle.safe.proofs.Opened.{decrypted}
 use borrow.Author.Needs.{needs}
 use Rattle.safe.proofs.open.decrypt.Statement.{statement}

@@ -3,13 +3,13 @@ use mathlib.Core.Path.{_∙_, sym, ap}
 use denote.Ref.{now}
 use native.Mathlib.Omega.{arith}
 use Rattle.words.specs.Numbers.{numberLow}
-use Rattle.safe.proofs.Slots.{four-from}
+use Rattle.words.proofs.Places.{four-at}
 use borrow.Author.Needs.{needs}
 use Rattle.safe.proofs.values.iter.Statement.{statement}
 use Rattle.safe.proofs.values.iter.Tie as tie
 
 returns : tie.Need-returns
-returns c = c .low .ensures ∙ ap numberLow (sym (four-from 36 (now (c .before .before .before .before .before .before .args .file)) (omega (arith, c .before .before .before .before .before .before .pre))))
+returns c = c .low .ensures ∙ ap numberLow (sym (four-at (now (c .before .before .before .before .before .before .args .file)) 36 (omega (arith, c .before .before .before .before .before .before .pre))))
 
 pub iter-spec : {M : Type 1} → statement M
 iter-spec =

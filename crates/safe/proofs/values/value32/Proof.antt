@@ -1,7 +1,7 @@
 -- `safe::values::value32` meets its contract: the whole value is copied.
 use mathlib.Core.Path.{_∙_}
 use denote.Ref.{now}
-use Rattle.safe.proofs.Slots.{copied-whole}
+use Rattle.words.proofs.SliceLaws.{copied-whole}
 use borrow.Author.Needs.{needs}
 use Rattle.safe.proofs.values.value32.Statement.{statement}
 use Rattle.safe.proofs.values.value32.Tie as tie

@@ -8,7 +8,7 @@ use Rattle.words.specs.Slices.{zeros}
 use Rattle.chain.specs.Modes.{ecbD}
 use Rattle.chain.specs.Memory.{opened, Handed}
 use Rattle.chain.specs.Twofish.{twofishCipher}
-use Rattle.safe.proofs.Slots.{copied-whole}
+use Rattle.words.proofs.SliceLaws.{copied-whole}
 use Rattle.safe.proofs.Opened.{unwrapped}
 --
 use borrow.Author.Needs.{needs}

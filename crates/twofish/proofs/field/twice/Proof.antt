@@ -1,6 +1,6 @@
 -- `twice`: computed at every byte.
 use Rattle.twofish.specs.Field.{_⊕_, twice}
-use Rattle.twofish.proofs.Every.{agree}
+use Rattle.words.proofs.Every.{agree}
 use mathlib.Core.Path.{_≡_, sym}
 use mathlib.Core.Bool.{cond}
 use Prim.Native.Nat.{ℕ, _*_, _%_, _<_}
