@@ -1,0 +1,5 @@
+pub mod Numbers
+pub mod Walk
+pub mod Append
+pub mod Judge
+pub mod Find

@@ -1,0 +1,48 @@
+// One field into a buffer.
+use super::numbers::store;
+use fields::Appended;
+ghost use mathlib.Core.Path.{_≡_};
+ghost use Rattle.fields.specs.Stored.{stored as field};
+ghost use Rattle.fields.specs.Append.{appendOf, bufferAfter, appendNumber};
+ghost use Rattle.talcfeather.specs.Numbers.{stored};
+ghost use Rattle.talcfeather.specs.Append.{appendNumbers};
+
+fn append_numbers(a: Appended) -> [u64; 1]
+    ensures { λ r. ⌜ r ≡ appendNumbers a ⌝ }
+{
+    let Appended::Next(next) = a else {
+        return [0];
+    };
+    [next as u64]
+}
+
+fn append_number(a: Appended) -> u32
+    ensures { λ r. ⌜ r ≡ appendNumber a ⌝ }
+{
+    match a {
+        Appended::Next(_) => 0,
+        Appended::Misplaced => 11,
+        Appended::EndWithData => 13,
+        Appended::BadFill => 12,
+        Appended::NoRoom => 3,
+    }
+}
+
+#[no_mangle]
+pub extern "C" fn talc_append(
+    buffer: &mut [u8],
+    place: usize,
+    kind: u8,
+    content: &[u8],
+    fill: &[u8],
+    next: &mut [u8; 8],
+) -> u32
+    ensures { λ r. ⌜ r ≡ appendNumber (appendOf (now (buffer .entry)) place (field kind (now (content .entry)) (now (fill .entry)))) ⌝ }
+    ensures { λ _. ⌜ now (buffer .exit) ≡ bufferAfter (appendOf (now (buffer .entry)) place (field kind (now (content .entry)) (now (fill .entry)))) (now (buffer .entry)) place (field kind (now (content .entry)) (now (fill .entry))) ⌝ }
+    ensures { λ _. ⌜ now (next .exit) ≡ stored (appendNumbers (appendOf (now (buffer .entry)) place (field kind (now (content .entry)) (now (fill .entry))))) ⌝ }
+{
+    let a = fields::append(buffer, place, kind, content, fill);
+    let numbers = append_numbers(a);
+    store(&numbers, next);
+    append_number(a)
+}

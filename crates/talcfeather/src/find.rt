@@ -1,0 +1,51 @@
+// The first record with a UUID.
+use super::numbers::store;
+use body::Sought;
+use fields::Value;
+ghost use mathlib.Core.Path.{_≡_};
+ghost use lib.ListN.{length};
+ghost use Rattle.body.specs.Find.{findNumber};
+ghost use Rattle.talcfeather.specs.Numbers.{stored};
+ghost use Rattle.talcfeather.specs.Find.{findNumbers, soughtOf};
+
+fn find_numbers(s: Sought) -> [u64; 3]
+    ensures { λ r. ⌜ r ≡ findNumbers s ⌝ }
+{
+    let Sought::At(number, place) = s else {
+        return [0; 3];
+    };
+    [1, number as u64, place as u64]
+}
+
+fn find_number(s: Sought) -> u32
+    ensures { λ r. ⌜ r ≡ findNumber s ⌝ }
+{
+    match s {
+        Sought::At(_, _) => 0,
+        Sought::Nowhere => 0,
+        Sought::NotWellFormed => 9,
+    }
+}
+
+// The UUID is read as a record's field of type 01 is.
+fn sought(body: &[u8], uuid: &[u8]) -> Sought
+    requires { ⌜ length (now uuid) ≡ 16 ⌝ }
+    ensures { λ r. ⌜ r ≡ soughtOf (now (body .entry)) (now (uuid .entry)) ⌝ }
+{
+    let Value::Uuid(low, high) = fields::value::value_of(true, 0x01, uuid) else {
+        return Sought::Nowhere;
+    };
+    let found = body::find(body, low, high);
+    found.sought
+}
+
+#[no_mangle]
+pub extern "C" fn talc_find(body: &[u8], uuid: &[u8; 16], answer: &mut [u8; 24]) -> u32
+    ensures { λ r. ⌜ r ≡ findNumber (soughtOf (now (body .entry)) (now (uuid .entry))) ⌝ }
+    ensures { λ _. ⌜ now (answer .exit) ≡ stored (findNumbers (soughtOf (now (body .entry)) (now (uuid .entry)))) ⌝ }
+{
+    let s = sought(body, uuid);
+    let numbers = find_numbers(s);
+    store(&numbers, answer);
+    find_number(s)
+}

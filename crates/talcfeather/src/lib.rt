@@ -1,0 +1,6 @@
+// The library at the C boundary. include/talcfeather.h describes each call; the bytes of an answer are those of specs/.
+mod append;
+mod find;
+mod judge;
+mod numbers;
+mod walk;
