@@ -10,10 +10,13 @@ ghost use Rattle.talcfeather.specs.Append.{appendNumbers};
 fn append_numbers(a: Appended) -> [u64; 1]
     ensures { λ r. ⌜ r ≡ appendNumbers a ⌝ }
 {
-    let Appended::Next(next) = a else {
-        return [0];
-    };
-    [next as u64]
+    match a {
+        Appended::Next(next) => [next as u64],
+        Appended::Misplaced => [0],
+        Appended::EndWithData => [0],
+        Appended::BadFill => [0],
+        Appended::NoRoom => [0],
+    }
 }
 
 fn append_number(a: Appended) -> u32

@@ -11,10 +11,11 @@ ghost use Rattle.talcfeather.specs.Find.{findNumbers, soughtOf};
 fn find_numbers(s: Sought) -> [u64; 3]
     ensures { λ r. ⌜ r ≡ findNumbers s ⌝ }
 {
-    let Sought::At(number, place) = s else {
-        return [0; 3];
-    };
-    [1, number as u64, place as u64]
+    match s {
+        Sought::At(number, place) => [1, number as u64, place as u64],
+        Sought::Nowhere => [0, 0, 0],
+        Sought::NotWellFormed => [0, 0, 0],
+    }
 }
 
 fn find_number(s: Sought) -> u32

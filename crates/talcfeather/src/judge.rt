@@ -9,10 +9,10 @@ ghost use Rattle.talcfeather.specs.Judge.{judgeNumbers};
 fn judge_numbers(j: Judged) -> [u64; 2]
     ensures { λ r. ⌜ r ≡ judgeNumbers j ⌝ }
 {
-    let Judged::Counts(headers, records) = j else {
-        return [0; 2];
-    };
-    [headers as u64, records as u64]
+    match j {
+        Judged::Counts(headers, records) => [headers as u64, records as u64],
+        Judged::NotWellFormed => [0, 0],
+    }
 }
 
 fn judge_number(j: Judged) -> u32

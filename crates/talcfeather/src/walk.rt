@@ -3,11 +3,12 @@ use super::numbers::flag;
 use super::numbers::store;
 use super::numbers::wide;
 use fields::Cursor;
+use fields::Field;
 use fields::Value;
 use fields::Walked;
 ghost use mathlib.Core.Path.{_≡_};
 ghost use Rattle.talcfeather.specs.Numbers.{stored};
-ghost use Rattle.talcfeather.specs.Walk.{valueNumbers, walkNumbers, cursor};
+ghost use Rattle.talcfeather.specs.Walk.{cursor, valueNumbers, fieldNumbers, walkNumbers};
 ghost use Rattle.fields.specs.Walk.{walkOf, walkNumber};
 
 // The kind of a value, and the numbers that it holds.
@@ -28,12 +29,9 @@ fn value_numbers(v: Value) -> [u64; 3]
     }
 }
 
-fn walk_numbers(w: Walked) -> [u64; 9]
-    ensures { λ r. ⌜ r ≡ walkNumbers w ⌝ }
+fn field_numbers(f: Field, next: Cursor) -> [u64; 9]
+    ensures { λ r. ⌜ r ≡ fieldNumbers f next ⌝ }
 {
-    let Walked::Took(f, next) = w else {
-        return [0; 9];
-    };
     let value = f.value;
     let v = value_numbers(value);
     [
@@ -47,6 +45,17 @@ fn walk_numbers(w: Walked) -> [u64; 9]
         v[1],
         v[2],
     ]
+}
+
+fn walk_numbers(w: Walked) -> [u64; 9]
+    ensures { λ r. ⌜ r ≡ walkNumbers w ⌝ }
+{
+    match w {
+        Walked::Took(f, next) => field_numbers(f, next),
+        Walked::Finished => [0; 9],
+        Walked::Misplaced => [0; 9],
+        Walked::Broken => [0; 9],
+    }
 }
 
 fn walk_number(w: Walked) -> u32

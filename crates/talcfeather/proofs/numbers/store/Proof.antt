@@ -1,59 +1,53 @@
+-- `talcfeather::numbers::store` meets its contract. The invariant of its loop: the first i bytes are those of the stored numbers.
+use mathlib.Core.Path.{_≡_, refl, sym, ap, ap₂, _∙_}
+use Prim.Native.Nat.{_+_, _-_, _*_, _/_, _%_, _≤_, _<_}
+use native.Mathlib.Numerals.{add-one}
+use native.Mathlib.Nat.{zero-add}
+use native.Mathlib.Omega.{arith}
 use borrow.Author.Needs.{needs}
+use lib.ListN.{length, getD, set, length-set}
+use lib.Seq.{paste, paste-zero, paste-suc}
+use Rattle.words.specs.Numbers.{byteOf}
+use Rattle.talcfeather.specs.Numbers.{stored}
+use Rattle.talcfeather.proofs.Stored.{stored-length, stored-at, all-stored}
 use Rattle.talcfeather.proofs.numbers.store.Statement.{statement}
 use Rattle.talcfeather.proofs.numbers.store.Tie as tie
-use Rattle.talcfeather.proofs.numbers.store.Reads as reads
-use Rattle.talcfeather.proofs.numbers.store.Lts as lts
-use Rattle.words.proofs.numbers.wide_byte.Reads as wide-byte-reads
 
 abbrev Inv-loop : tie.InvT-loop
-Inv-loop numbers memory₀ i₀ memory i = ?
+Inv-loop numbers memory₀ i₀ memory i = (i ≤ length memory₀) × (length memory ≡ length memory₀) × (memory ≡ paste memory₀ 0 (stored numbers) i)
 
 abbrev μ-loop : tie.MeasureT-loop
-μ-loop numbers memory₀ i₀ memory i = ?
+μ-loop numbers memory₀ i₀ memory i = length memory₀ - i
 
--- src/numbers.rt:14:5
 loop-holds : tie.Need-loop-holds Inv-loop μ-loop
-loop-holds c = search needs
+loop-holds c = (search needs, search needs, paste-zero (c .before .before .args .memory .now) 0 (stored (c .before .before .args .numbers .now)))
 
--- src/numbers.rt:15:31
-mul-wide-byte : tie.Need-mul-wide-byte Inv-loop μ-loop
-mul-wide-byte c = search needs
-
--- src/numbers.rt:15:31
-shared-slice-read-wide-byte : tie.Need-shared-slice-read-wide-byte Inv-loop μ-loop
-shared-slice-read-wide-byte c = search needs
-
--- src/numbers.rt:15:47
-cast-wide-byte : tie.Need-cast-wide-byte Inv-loop μ-loop
-cast-wide-byte c = search needs
-
--- src/numbers.rt:15:21
-wide-byte-requires : tie.Need-wide-byte-requires Inv-loop μ-loop
-wide-byte-requires c κs = search needs
-
--- src/numbers.rt:15:9
-slice-write-memory : tie.Need-slice-write-memory Inv-loop μ-loop
-slice-write-memory c = search needs
-
--- src/numbers.rt:16:9
-add-i : tie.Need-add-i Inv-loop μ-loop
-add-i c = search needs
-
--- src/numbers.rt:14:5
-loop-less : tie.Need-loop-less Inv-loop μ-loop
-loop-less c = search needs
-
--- src/numbers.rt:14:5
 loop-again : tie.Need-loop-again Inv-loop μ-loop
-loop-again c = search needs
+loop-again c =
+    let a = c .before .before .before .before .before .before .args in
+    let i = c .before .before .before .loop .i in
+    let v = c .before .before .before .loop .inv in
+    let s = stored (a .numbers .now) in
+    let m = a .memory .now in
+    let n = stored-length (a .numbers .now) in
+    let here : i < 8 * length (a .numbers .now) = omega arith in
+    let r : i % 8 % 8 ≡ i % 8 = omega arith in
+    let byte = c .wide-byte .ensures ∙ ap (λ k. byteOf k (getD (a .numbers .now) (i / 8) 0)) r ∙ sym (stored-at (a .numbers .now) i here) in
+    (
+      search needs,
+      simp length-set (v .1),
+      ap₂ (λ l b. set l i b) (v .2) byte
+      ∙ ap (λ k. set (paste m 0 s i) k (getD s i 0)) (sym (zero-add i))
+      ∙ paste-suc m 0 s i 0 (omega arith) (omega (arith, n))
+      ∙ ap (paste m 0 s) (sym (add-one i)),
+    )
 
--- src/numbers.rt:9:1
-same-length : tie.Need-same-length Inv-loop μ-loop
-same-length c = search needs
-
--- src/numbers.rt:9:1
 returns : tie.Need-returns Inv-loop μ-loop
-returns c = search needs
+returns c =
+    let a = c .before .before .before .before .args in
+    let v = c .before .loop .inv in
+    let n = stored-length (a .numbers .now) in
+    v .2 ∙ all-stored (a .memory .now) (stored (a .numbers .now)) (c .before .loop .i) (omega (arith, n)) (omega (arith, n))
 
 pub store-spec : {M : Type 1} → statement M
 store-spec =
@@ -62,13 +56,13 @@ store-spec =
     Inv-loop
     μ-loop
     loop-holds
-    mul-wide-byte
-    shared-slice-read-wide-byte
-    cast-wide-byte
-    wide-byte-requires
-    slice-write-memory
-    add-i
-    loop-less
+    (λ c. search needs)
+    (λ c. search needs)
+    (λ c. search needs)
+    (λ c κs. search needs)
+    (λ c. search needs)
+    (λ c. search needs)
+    (λ c. search needs)
     loop-again
-    same-length
+    (λ c. search needs)
     returns)
