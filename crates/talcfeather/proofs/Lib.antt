@@ -1,2 +1,3 @@
 pub mod Stored
-pub mod Values
+mod Values
+pub mod OneAnswer

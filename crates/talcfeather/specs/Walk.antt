@@ -1,17 +1,17 @@
--- The answer of talc_walk, nine numbers.
+-- talc_walk: its answer is nine numbers.
 use Prim.Native.Nat.{ℕ}
+use mathlib.Core.Path.{_≡_}
 use mathlib.Core.Bool.{Bool, cond}
 use mathlib.Core.List.{List, [], _∷_}
-use lib.ListN.{replicate}
+use Rattle.words.specs.Slices.{zeros}
+use Rattle.fields.specs.Walk.{walkOf, walkNumber}
 use Rattle.fields.specs.declared.Cursor.{Cursor}
 use Rattle.fields.specs.declared.Field.{Field}
 use Rattle.fields.specs.declared.Walked.{Walked}
 use Rattle.fields.specs.declared.Walked.the-variants.{Took, Finished, Misplaced, Broken}
 use Rattle.fields.specs.declared.value.Value.{Value}
 use Rattle.fields.specs.declared.value.Value.the-variants as Value
-
-abbrev pub cursor : ℕ → Bool → Cursor
-cursor place r = record { place = place; «in_record» = r }
+use Rattle.talcfeather.specs.Numbers.{stored}
 
 -- the kind of a value, and what it holds
 abbrev pub valueNumbers : Value → List ℕ
@@ -33,6 +33,14 @@ fieldNumbers f d = 1 ∷ d .place ∷ cond (d .«in_record») 1 0 ∷ f .kind �
 -- zero at the end, and where refused
 abbrev pub walkNumbers : Walked → List ℕ
 walkNumbers (Took f d) = fieldNumbers f d
-walkNumbers Finished = replicate 9 0
-walkNumbers Misplaced = replicate 9 0
-walkNumbers Broken = replicate 9 0
+walkNumbers Finished = zeros 9
+walkNumbers Misplaced = zeros 9
+walkNumbers Broken = zeros 9
+
+-- r: in a record, not in the header
+abbrev pub walked : List ℕ → ℕ → Bool → Walked
+walked body place r = walkOf body (record { place = place; «in_record» = r })
+
+pub record Walks (body : List ℕ) (place : ℕ) (r : Bool) (number : ℕ) (answer : List ℕ) : Type 0 where
+  pub is-number : number ≡ walkNumber (walked body place r)
+  pub is-answer : answer ≡ stored (walkNumbers (walked body place r))

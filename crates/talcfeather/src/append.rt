@@ -2,10 +2,9 @@
 use super::numbers::store;
 use fields::Appended;
 ghost use mathlib.Core.Path.{_≡_};
-ghost use Rattle.fields.specs.Stored.{stored as field};
-ghost use Rattle.fields.specs.Append.{appendOf, bufferAfter, appendNumber};
-ghost use Rattle.talcfeather.specs.Numbers.{stored};
-ghost use Rattle.talcfeather.specs.Append.{appendNumbers};
+ghost use Rattle.fields.specs.Stored.{stored};
+ghost use Rattle.fields.specs.Append.{appendNumber};
+ghost use Rattle.talcfeather.specs.Append.{appendNumbers, Appends};
 
 fn append_numbers(a: Appended) -> [u64; 1]
     ensures { λ r. ⌜ r ≡ appendNumbers a ⌝ }
@@ -40,9 +39,7 @@ pub extern "C" fn talc_append(
     fill: &[u8],
     next: &mut [u8; 8],
 ) -> u32
-    ensures { λ r. ⌜ r ≡ appendNumber (appendOf (now (buffer .entry)) place (field kind (now (content .entry)) (now (fill .entry)))) ⌝ }
-    ensures { λ _. ⌜ now (buffer .exit) ≡ bufferAfter (appendOf (now (buffer .entry)) place (field kind (now (content .entry)) (now (fill .entry)))) (now (buffer .entry)) place (field kind (now (content .entry)) (now (fill .entry))) ⌝ }
-    ensures { λ _. ⌜ now (next .exit) ≡ stored (appendNumbers (appendOf (now (buffer .entry)) place (field kind (now (content .entry)) (now (fill .entry))))) ⌝ }
+    ensures { λ r. ⌜ Appends (now (buffer .entry)) place (stored kind (now (content .entry)) (now (fill .entry))) r (now (buffer .exit)) (now (next .exit)) ⌝ }
 {
     let a = fields::append(buffer, place, kind, content, fill);
     let numbers = append_numbers(a);

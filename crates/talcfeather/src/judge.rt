@@ -2,9 +2,8 @@
 use super::numbers::store;
 use body::Judged;
 ghost use mathlib.Core.Path.{_≡_};
-ghost use Rattle.body.specs.Decision.{judgedOf, judgeNumber};
-ghost use Rattle.talcfeather.specs.Numbers.{stored};
-ghost use Rattle.talcfeather.specs.Judge.{judgeNumbers};
+ghost use Rattle.body.specs.Decision.{judgeNumber};
+ghost use Rattle.talcfeather.specs.Judge.{judgeNumbers, Judges};
 
 fn judge_numbers(j: Judged) -> [u64; 2]
     ensures { λ r. ⌜ r ≡ judgeNumbers j ⌝ }
@@ -26,8 +25,7 @@ fn judge_number(j: Judged) -> u32
 
 #[no_mangle]
 pub extern "C" fn talc_judge(body: &[u8], answer: &mut [u8; 16]) -> u32
-    ensures { λ r. ⌜ r ≡ judgeNumber (judgedOf (now (body .entry))) ⌝ }
-    ensures { λ _. ⌜ now (answer .exit) ≡ stored (judgeNumbers (judgedOf (now (body .entry)))) ⌝ }
+    ensures { λ r. ⌜ Judges (now (body .entry)) r (now (answer .exit)) ⌝ }
 {
     let j = body::judge(body);
     let numbers = judge_numbers(j);

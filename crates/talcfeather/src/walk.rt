@@ -7,9 +7,8 @@ use fields::Field;
 use fields::Value;
 use fields::Walked;
 ghost use mathlib.Core.Path.{_≡_};
-ghost use Rattle.talcfeather.specs.Numbers.{stored};
-ghost use Rattle.talcfeather.specs.Walk.{cursor, valueNumbers, fieldNumbers, walkNumbers};
-ghost use Rattle.fields.specs.Walk.{walkOf, walkNumber};
+ghost use Rattle.talcfeather.specs.Walk.{valueNumbers, fieldNumbers, walkNumbers, Walks};
+ghost use Rattle.fields.specs.Walk.{walkNumber};
 
 // The kind of a value, and the numbers that it holds.
 fn value_numbers(v: Value) -> [u64; 3]
@@ -76,8 +75,7 @@ pub extern "C" fn talc_walk(
     in_record: bool,
     answer: &mut [u8; 72],
 ) -> u32
-    ensures { λ r. ⌜ r ≡ walkNumber (walkOf (now (body .entry)) (cursor place «in_record»)) ⌝ }
-    ensures { λ _. ⌜ now (answer .exit) ≡ stored (walkNumbers (walkOf (now (body .entry)) (cursor place «in_record»))) ⌝ }
+    ensures { λ r. ⌜ Walks (now (body .entry)) place «in_record» r (now (answer .exit)) ⌝ }
 {
     let c = Cursor {
         place: place,

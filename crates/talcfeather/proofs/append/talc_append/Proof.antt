@@ -44,11 +44,11 @@ returns c =
     let a = c .before .before .before .before .before .before .before .before .before .before .before .before .args in
     let f = field (a .kind) (a .content .now) (a .fill .now) in
     let said = c .before .before .before .before .before .before .before .append .ensures in
-    (
-      c .append-number .ensures ∙ ap appendNumber (said .0),
-      (said .1 ∙ ap (λ r. bufferAfter r (a .buffer .now) (a .place) f) (said .0),
-      c .before .store .ensures ∙ ap stored (c .before .before .before .before .append-numbers .ensures ∙ ap appendNumbers (said .0))),
-    )
+    record {
+      is-number = c .append-number .ensures ∙ ap appendNumber (said .0);
+      is-buffer = said .1 ∙ ap (λ r. bufferAfter r (a .buffer .now) (a .place) f) (said .0);
+      is-next = c .before .store .ensures ∙ ap stored (c .before .before .before .before .append-numbers .ensures ∙ ap appendNumbers (said .0));
+    }
 
 pub talc-append-spec : {M : Type 1} → statement M
 talc-append-spec =

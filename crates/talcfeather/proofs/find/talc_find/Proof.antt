@@ -37,10 +37,10 @@ find-number-requires c κs = search needs
 returns : tie.Need-returns
 returns c =
     let said = c .before .before .before .before .before .sought .ensures in
-    (
-      c .find-number .ensures ∙ ap findNumber said,
-      c .before .store .ensures ∙ ap stored (c .before .before .before .before .find-numbers .ensures ∙ ap findNumbers said),
-    )
+    record {
+      is-number = c .find-number .ensures ∙ ap findNumber said;
+      is-answer = c .before .store .ensures ∙ ap stored (c .before .before .before .before .find-numbers .ensures ∙ ap findNumbers said);
+    }
 
 pub talc-find-spec : {M : Type 1} → statement M
 talc-find-spec =

@@ -37,10 +37,10 @@ judge-number-requires c κs = search needs
 returns : tie.Need-returns
 returns c =
     let said = c .before .before .before .before .before .judge .ensures in
-    (
-      c .judge-number .ensures ∙ ap judgeNumber said,
-      c .before .store .ensures ∙ ap stored (c .before .before .before .before .judge-numbers .ensures ∙ ap judgeNumbers said),
-    )
+    record {
+      is-number = c .judge-number .ensures ∙ ap judgeNumber said;
+      is-answer = c .before .store .ensures ∙ ap stored (c .before .before .before .before .judge-numbers .ensures ∙ ap judgeNumbers said);
+    }
 
 pub talc-judge-spec : {M : Type 1} → statement M
 talc-judge-spec =

@@ -37,10 +37,10 @@ walk-number-requires c κs = search needs
 returns : tie.Need-returns
 returns c =
     let said = c .before .before .before .before .before .walk .ensures in
-    (
-      c .walk-number .ensures ∙ ap walkNumber said,
-      c .before .store .ensures ∙ ap stored (c .before .before .before .before .walk-numbers .ensures ∙ ap walkNumbers said),
-    )
+    record {
+      is-number = c .walk-number .ensures ∙ ap walkNumber said;
+      is-answer = c .before .store .ensures ∙ ap stored (c .before .before .before .before .walk-numbers .ensures ∙ ap walkNumbers said);
+    }
 
 pub talc-walk-spec : {M : Type 1} → statement M
 talc-walk-spec =
