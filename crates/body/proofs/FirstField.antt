@@ -37,6 +37,7 @@ version-took s f d e =
   where
     second : lenAt s 0 ≡ 2 → getD s 6 0 ≡ getD (storedAt s 0 .content) 1 0
     second x = sym (getD-take (lenAt s 0) (drop (0 + 5) s) 1 0 (omega arith) ∙ getD-drop (0 + 5) s 1 0)
+
     by : (a b : Bool) → (b ≡ true → getD s 6 0 ≡ getD (storedAt s 0 .content) 1 0)
         → cond a (cond b (eqb (getD s 6 0) 0x03) false) false ≡ a && (b && eqb (getD (storedAt s 0 .content) 1 0) 0x03)
     by false b h = refl
@@ -52,6 +53,7 @@ version-none s w q o =
     left : (a b : Bool) → (a && b) ≡ true → a ≡ true
     left true b h = refl
     left false b h = absurd (false≢true h)
+
     no-version : storedAt s 0 .kind ≡ 0xff → false ≡ versionFirst (storedAt s 0 ∷ fieldsFrom s (0 + roomOf (lenAt s 0)))
     no-version k = rw k
 

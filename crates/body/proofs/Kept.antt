@@ -14,7 +14,23 @@ use Rattle.body.specs.Division.{Divides}
 use Rattle.body.specs.Sections.{isEnd, push, runs, count, covered}
 use Rattle.body.specs.WellFormed.{onceInHeader}
 use Rattle.body.specs.Decision.{
-  fieldsOf, exactFrom, all, endsEmpty, versionFirst, one, none, goodHeader, goodRecord, goodRuns, wellFormed, headerIn, recordsIn, headersOf, recordsOf, coveredOf, judgedOf,
+  fieldsOf,
+  exactFrom,
+  all,
+  endsEmpty,
+  versionFirst,
+  one,
+  none,
+  goodHeader,
+  goodRecord,
+  goodRuns,
+  wellFormed,
+  headerIn,
+  recordsIn,
+  headersOf,
+  recordsOf,
+  coveredOf,
+  judgedOf,
 }
 use Rattle.body.specs.declared.Judged.{Judged}
 use Rattle.body.specs.declared.Judged.the-variants.{Counts, NotWellFormed}
@@ -157,6 +173,7 @@ header-data a f b d = go onceInHeader
     counts : (k : ℕ) (a : List Stored) → count k (a ++ (record { kind = f .kind; content = d; fill = f .fill } ∷ b)) ≡ count k (a ++ (f ∷ b))
     counts k [] = refl
     counts k (g ∷ a) = ap (_+_ (cond (eqb (g .kind) k) 1 0)) (counts k a)
+
     go : (ts : List ℕ) → all (λ k. leb (count k (a ++ (record { kind = f .kind; content = d; fill = f .fill } ∷ b))) 1) ts ≡ all (λ k. leb (count k (a ++ (f ∷ b))) 1) ts
     go [] = refl
     go (t ∷ ts) = ap₂ (λ (m : ℕ) (c : Bool). leb m 1 && c) (counts t a) (go ts)

@@ -53,9 +53,9 @@ module _ (s : List ℕ) (c : Cursor) (x : Section) (h n : ℕ) (t : Stands s c x
       let r = c .«in_record» in
       ⊎-elim
       (λ e. verdict-broken (t .right) r (t .cur) h n (fieldsFrom s (c .place))
-        ∙ ap (λ (b : Bool). verdict (t .right) r (t .cur) h n b (fieldsFrom s (c .place))) (sym (cut-off s (c .place) e l)) ∙ t .rest)
+      ∙ ap (λ (b : Bool). verdict (t .right) r (t .cur) h n b (fieldsFrom s (c .place))) (sym (cut-off s (c .place) e l)) ∙ t .rest)
       (λ e. verdict-ended (t .right) r (t .cur) h n (exactFrom s (c .place)) (storedAt s (c .place)) (fieldsFrom s (c .place + roomOf (lenAt s (c .place)))) (e .1)
-        ∙ ap (verdict (t .right) r (t .cur) h n (exactFrom s (c .place))) (sym (e .0)) ∙ t .rest)
+      ∙ ap (verdict (t .right) r (t .cur) h n (exactFrom s (c .place))) (sym (e .0)) ∙ t .rest)
       (untaken s c w q (t .aligned) o)
 
   -- the end

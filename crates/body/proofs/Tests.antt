@@ -35,6 +35,7 @@ where-equal a b t P k = (forth (eqb a b) refl, λ h. back (eqb a b) refl h)
     forth : (c : Bool) → eqb a b ≡ c → cond c t true ≡ true → a ≡ b → P
     forth true e h q = k .0 h
     forth false e h q = absurd (eqb-false a b e q)
+
     back : (c : Bool) → eqb a b ≡ c → (a ≡ b → P) → cond c t true ≡ true
     back true e h = k .1 (h (eqb-true a b e))
     back false e h = refl

@@ -62,9 +62,11 @@ module _ (b r : Bool) (cur : List Stored) (h n : ℕ) (e : Bool) (f : Stored) (f
       by true true false false t = refl
       by true false m true t = refl
       by true false m false t = refl
+
       zeros : (r : Bool) → h + cond r 0 0 ≡ h + 0
       zeros true = refl
       zeros false = refl
+
       counts : (r : Bool) (l : ℕ) → n + (suc (suc l) - cond r 1 2) ≡ n + cond r 1 0 + (suc l - 1)
       counts true l = omega arith
       counts false l = omega arith

@@ -5,7 +5,6 @@ pub mod value;
 pub use store::Appended;
 pub use store::append;
 pub use value::Value;
-
 ghost use mathlib.Core.Path.{_≡_};
 ghost use mathlib.Core.Bool.{_||_};
 ghost use lib.Dec.{eqb};

@@ -38,7 +38,7 @@ pub record Values (salt : List ℕ) (iter : ℕ) (K L iv body : List ℕ) : Type
   pub iv-sized : Sized 16 iv
   pub body-bytes : Bytes body
 
-good-body : (n : ℕ) → badBody n ≡ false → (32 ≤ n) × (n ≤ 4194096) × (n % 16 ≡ 0)
+pub good-body : (n : ℕ) → badBody n ≡ false → (32 ≤ n) × (n ≤ 4194096) × (n % 16 ≡ 0)
 unfolding badBody
 good-body n h = go (ltb n 32) (ltb 4194096 n) (eqb (n % 16) 0) refl refl refl h
   where

@@ -1,1 +1,7 @@
 pub mod V3Laws
+pub mod Slots
+pub mod Opened
+pub mod Sealing
+pub mod Verdicts
+pub mod Laying
+pub mod Writes

@@ -18,7 +18,7 @@ use Rattle.body.proofs.Decided.{decides, well-formed, covered-are}
 use Rattle.file.specs.Edition.{Laws}
 use Rattle.safe.specs.V3.{stretchedV3, v3}
 
-hmac-sized : (k m : List ℕ) → Sized 32 (hmacOf k m)
+pub hmac-sized : (k m : List ℕ) → Sized 32 (hmacOf k m)
 unfolding hmacOf
 hmac-sized k m = sha256-sized _
 

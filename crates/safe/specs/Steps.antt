@@ -22,9 +22,9 @@ pub record Unwrapped (key keys : List ℕ) (r : Keys) : Type 0 where
   pub l : r .l ≡ drop 32 (keysOpened v3 key keys .done)
   pub count : r .count ≡ keysOpened v3 key keys .count
 
--- the whole body decrypted: the workspace holds that state's text, and the answer is that state's own count
-pub record Decrypted (o : Opening) (before after : List ℕ) (count : ℕ) : Type 0 where
-  pub text : after ≡ o .done ++ drop (length (o .done)) before
+-- the whole body decrypted: the memory holds that state's text, and the answer is that state's own count
+pub record Decrypted (o : Opening) (memory : List ℕ) (count : ℕ) : Type 0 where
+  pub text : memory ≡ o .done
   pub blocks : count ≡ o .count
 
 -- the counts of a body that is well formed and whose HMAC under L is mac, or 9

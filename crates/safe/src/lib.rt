@@ -6,7 +6,6 @@ mod tests;
 mod values;
 mod wrap;
 
-
 ghost use mathlib.Core.Path.{_≡_};
 ghost use lib.ListN.{length};
 ghost use Rattle.file.specs.Reading.{readingOf};
@@ -60,8 +59,9 @@ pub enum Written {
 pub fn read(file: &[u8], passphrase: &[u8], ceiling: u32, workspace: &mut [u8]) -> Reading
     ensures { λ r. ⌜ Reports (readingOf v3 (now (file .entry)) (now (passphrase .entry)) ceiling (length (now (workspace .entry)))) (now (workspace .entry)) (now (workspace .exit)) r ⌝ }
 {
+    let room = workspace.len();
     words::slices::zero(workspace);
-    let t = tests::reading(file, passphrase, ceiling, workspace.len());
+    let t = tests::reading(file, passphrase, ceiling, room);
     match t {
         Early::Refused(x) => open::refused(x, 0, 0),
         Early::Passed => open::open(file, passphrase, workspace),
@@ -81,8 +81,9 @@ pub fn write(
 ) -> Written
     ensures { λ r. ⌜ (writtenNumber r ≡ writingOf v3 (now (passphrase .entry)) (now (salt .entry)) iter (now (k .entry)) (now (l .entry)) (now (iv .entry)) (now (body .entry)) (length (now (output .entry))) .number) × (now (output .exit) ≡ writingOf v3 (now (passphrase .entry)) (now (salt .entry)) iter (now (k .entry)) (now (l .entry)) (now (iv .entry)) (now (body .entry)) (length (now (output .entry))) .output) ⌝ }
 {
+    let room = output.len();
     words::slices::zero(output);
-    let t = tests::writing(passphrase, iter, body, output.len());
+    let t = tests::writing(passphrase, iter, body, room);
     match t {
         Early::Refused(x) => Written::Refused(x),
         Early::Passed => assemble::file(passphrase, salt, iter, k, l, iv, body, output),

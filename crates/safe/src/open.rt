@@ -38,16 +38,15 @@ pub fn refused(x: Refusal, compressions: u64, blocks: u64) -> Reading
     }
 }
 
-// The whole body, decrypted into the start of the workspace.
-fn decrypt(file: &[u8], k: &[u8; 32], count: u64, workspace: &mut [u8]) -> u64
-    requires { ⌜ (length (now file) ≡ 200 + 16 * ((length (now file) - 200) / 16)) × (length (now file) - 200 ≤ length (now workspace)) × (count < 2 ^ 32) ⌝ }
-    ensures { λ r. ⌜ Decrypted (bodyOpened v3 (now (k .entry)) (split (now (file .entry)) .iv) ((length (now (file .entry)) - 200) / 16) (split (now (file .entry)) .cipher) count) (now (workspace .entry)) (now (workspace .exit)) r ⌝ }
+// The whole body, decrypted: `work` is as long as it.
+fn decrypt(file: &[u8], k: &[u8; 32], count: u64, work: &mut [u8]) -> u64
+    requires { ⌜ (length (now file) ≡ 200 + 16 * ((length (now file) - 200) / 16)) × (length (now file) ≡ 200 + length (now work)) × (count < 2 ^ 32) × (length (now file) < 2 ^ 32) ⌝ }
+    ensures { λ r. ⌜ Decrypted (bodyOpened v3 (now (k .entry)) (split (now (file .entry)) .iv) ((length (now (file .entry)) - 200) / 16) (split (now (file .entry)) .cipher) count) (now (work .exit)) r ⌝ }
 {
-    let n = file.len() - 200;
-    let e = 152 + n;
+    let e = file.len() - 48;
     let iv = value16(&file[136..152]);
-    copy(&mut workspace[..n], &file[152..e]);
-    chain::cbc_decrypt(k, &iv, &mut workspace[..n], count)
+    copy(work, &file[152..e]);
+    chain::cbc_decrypt(k, &iv, work, count)
 }
 
 // The counts of a body that is well formed and whose HMAC is mac; both faults are one answer.
@@ -67,14 +66,14 @@ fn judged(body: &[u8], l: &[u8; 32], mac: &[u8]) -> Judged
 
 // The body decrypted and judged; refused, nothing of it stays. `compressions` and the passphrase's check are behind us.
 fn judge(file: &[u8], key: &[u8; 32], compressions: u64, workspace: &mut [u8]) -> Reading
-    requires { ⌜ (length (now file) ≡ 200 + 16 * ((length (now file) - 200) / 16)) × (length (now file) - 200 ≤ length (now workspace)) × (now workspace ≡ zeros (length (now workspace))) ⌝ }
+    requires { ⌜ (length (now file) ≡ 200 + 16 * ((length (now file) - 200) / 16)) × (length (now file) - 200 ≤ length (now workspace)) × (length (now file) < 2 ^ 32) × (now workspace ≡ zeros (length (now workspace))) ⌝ }
     ensures { λ r. ⌜ ((s : Stretched) → s .key ≡ now (key .entry) → s .count ≡ compressions → Reports (judgedReport v3 (keyK v3 (split (now (file .entry))) s) (keyL v3 (split (now (file .entry))) s) (split (now (file .entry)) .mac) compressions (bodyOf v3 (split (now (file .entry))) s ((length (now (file .entry)) - 200) / 16))) (now (workspace .entry)) (now (workspace .exit)) r) ⌝ }
 {
     let keys = unwrap(key, &file[72..136]);
     let k = keys.k;
     let l = keys.l;
-    let blocks = decrypt(file, &k, keys.count, workspace);
     let n = file.len() - 200;
+    let blocks = decrypt(file, &k, keys.count, &mut workspace[..n]);
     let e = file.len() - 32;
     let j = judged(&workspace[..n], &l, &file[e..]);
     let Judged::Counts(headers, records) = j else {
@@ -92,7 +91,7 @@ fn judge(file: &[u8], key: &[u8; 32], compressions: u64, workspace: &mut [u8]) -
 
 // The passphrase stretched and checked, and then the body.
 pub fn open(file: &[u8], passphrase: &[u8], workspace: &mut [u8]) -> Reading
-    requires { ⌜ (length (now file) ≡ 200 + 16 * ((length (now file) - 200) / 16)) × (length (now file) - 200 ≤ length (now workspace)) × (now workspace ≡ zeros (length (now workspace))) ⌝ }
+    requires { ⌜ (length (now file) ≡ 200 + 16 * ((length (now file) - 200) / 16)) × (length (now file) - 200 ≤ length (now workspace)) × (length (now file) < 2 ^ 32) × (now workspace ≡ zeros (length (now workspace))) ⌝ }
     ensures { λ r. ⌜ Reports (checkedOf v3 (split (now (file .entry))) (stretchedV3 (now (passphrase .entry)) (split (now (file .entry)) .salt) (numberLow (split (now (file .entry)) .iter))) ((length (now (file .entry)) - 200) / 16)) (now (workspace .entry)) (now (workspace .exit)) r ⌝ }
 {
     let salt = value32(&file[4..36]);

@@ -1,4 +1,5 @@
 // The two keys, wrapped under the stretched key.
+use super::values::lay;
 use super::values::value32;
 use words::slices::copy;
 ghost use mathlib.Core.Path.{_≡_};
@@ -31,11 +32,11 @@ pub fn unwrap(key: &[u8; 32], keys: &[u8]) -> Keys
 }
 
 pub fn wrap(key: &[u8; 32], k: &[u8; 32], l: &[u8; 32]) -> [u8; 64]
-    ensures { λ r. ⌜ r ≡ wrapped v3 (now (key .entry)) (now (k .entry)) (now (l .entry)) ⌝ }
+    ensures { λ r. ⌜ (r ≡ wrapped v3 (now (key .entry)) (now (k .entry)) (now (l .entry))) × (length r ≡ 64) ⌝ }
 {
     let mut w = [0u8; 64];
-    copy(&mut w[..32], k);
-    copy(&mut w[32..], l);
+    lay(&mut w, 0, k);
+    lay(&mut w, 32, l);
     chain::ecb_encrypt(key, &mut w);
     w
 }

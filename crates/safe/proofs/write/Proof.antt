@@ -1,58 +1,45 @@
+-- `safe::write` meets its contract: the early tests, and then the laying out.
+use mathlib.Core.Path.{_≡_, refl, sym, ap, _∙_}
+use native.Mathlib.Omega.{arith}
+use denote.Ref.{now}
+use lib.ListN.{length, length-replicate}
+use Rattle.words.specs.Slices.{zeros}
+use Rattle.safe.proofs.Writes.{passed-writing, writes-refused, writes-laid}
 use borrow.Author.Needs.{needs}
 use Rattle.safe.proofs.write.Statement.{statement}
 use Rattle.safe.proofs.write.Tie as tie
-use Rattle.safe.proofs.write.Reads as reads
-use Rattle.safe.proofs.write.Lts as lts
-use Rattle.safe.proofs.assemble.file.Reads as file-reads
-use Rattle.safe.proofs.tests.writing.Reads as writing-reads
-use Rattle.words.proofs.slices.zero.Reads as zero-reads
 
--- src/lib.rt:84:5
-zero-requires : tie.Need-zero-requires
-zero-requires c κs = search needs
-
--- src/lib.rt:85:9
-writing-requires : tie.Need-writing-requires
-writing-requires c κs = search needs
-
--- src/lib.rt:87:24
-enum-known-t : tie.Need-enum-known-t
-enum-known-t c = search needs
-
--- src/lib.rt:88:81
-enum-told : tie.Need-enum-told
-enum-told c = search needs
-
--- src/lib.rt:88:26
 file-requires : tie.Need-file-requires
-file-requires c κs = search needs
+file-requires c κs =
+    let t = c .before .before .before .before .before .before .before .before .before .before .before .args in
+    let z = c .before .before .before .before .before .before .zero .ensures in
+    let l = ap length z ∙ length-replicate (length (now (t .output))) 0 in
+    let g = passed-writing (now (t .passphrase)) (t .iter) (now (t .body)) (length (now (t .output))) (c .before .before .before .writing .ensures) (c .before .enum-told .given .1) in
+    (z ∙ ap zeros (sym l), omega (arith, g .0, l), g .1, g .2)
 
--- src/lib.rt:72:1
-same-length : tie.Need-same-length
-same-length c = search needs
-
--- src/lib.rt:72:1
 returns : tie.Need-returns
-returns c = search needs
+returns c =
+    let t = c .before .before .before .before .before .before .before .before .before .before .before .args in
+    writes-refused (now (t .passphrase)) (t .iter) (now (t .body)) (length (now (t .output))) (now (t .salt)) (now (t .k)) (now (t .l)) (now (t .iv)) _
+    (c .before .before .before .writing .ensures) (c .before .t .given .1) (c .before .before .before .before .before .before .zero .ensures)
 
--- src/lib.rt:72:1
-same-length-2 : tie.Need-same-length-2
-same-length-2 c = search needs
-
--- src/lib.rt:72:1
 returns-2 : tie.Need-returns-2
-returns-2 c = search needs
+returns-2 c =
+    let t = c .before .before .before .before .before .before .before .before .before .before .before .before .before .before .args in
+    let l = ap length (c .before .before .before .before .before .before .before .before .before .zero .ensures) ∙ length-replicate (length (now (t .output))) 0 in
+    writes-laid (now (t .passphrase)) (t .iter) (now (t .body)) (length (now (t .output))) (now (t .salt)) (now (t .k)) (now (t .l)) (now (t .iv))
+    (c .before .before .before .before .before .before .writing .ensures) (c .before .before .before .before .enum-told .given .1) l (c .before .before .file .ensures)
 
 pub write-spec : {M : Type 1} → statement M
 write-spec =
     tie.close
     (tie.spec
-    zero-requires
-    writing-requires
-    enum-known-t
-    enum-told
+    (λ c κs. search needs)
+    (λ c κs. search needs)
+    (λ c. search needs)
+    (λ c. search needs)
     file-requires
-    same-length
+    (λ c. search needs)
     returns
-    same-length-2
+    (λ c. search needs)
     returns-2)

@@ -110,8 +110,7 @@ returns-7 c =
     let f = stored (a .kind) (a .content .now) (a .fill .now) in
     let no-data = sym (c .before .before .before .before .before .before .before .before .before .end-with-data .ensures) ∙ c .before .before .before .before .before .before .before .before .if3 .left in
     let filled = c .before .before .before .before .before .before .before .fill-for .ensures in
-    let room : 5 + length (a .content .now) + c .before .before .before .before .before .before .before .fill-for .result ≡ roomOf (length (a .content .now)) = ap (_+_ (5 + length (a .content .now))) filled ∙ room-fill (length (a .content .now)) in
-    (
+    let room : 5 + length (a .content .now) + c .before .before .before .before .before .before .before .fill-for .result ≡ roomOf (length (a .content .now)) = ap (_+_ (5 + length (a .content .now))) filled ∙ room-fill (length (a .content .now)) in (
       rw room (placed (a .buf .now) (a .place) f (search needs) (search needs) no-data (c .before .before .before .before .before .before .if4 .left ∙ filled) (omega (arith, room, c .before .before .before .before .before .if5 .left)) (rw room at (c .before .before .before .before .if6 .left))),
       replaced (a .buf .now) _ _ (a .place) _ (omega arith) (c .before .before .write .ensures),
     )

@@ -1,4 +1,3 @@
-
 use borrow.Author.Needs.{needs}
 use Rattle.fields.proofs.value.plain.Statement.{statement}
 use Rattle.fields.proofs.value.plain.Tie as tie

@@ -1,127 +1,86 @@
+-- `safe::assemble::file` meets its contract: the head, the body behind it, and where no block is the marker the rest.
+use Rattle.safe.proofs.V3Laws.{hmac-sized}
+use Prim.Native.Nat.{_≤_}
+use mathlib.Core.Path.{_≡_, refl, sym, ap, _∙_}
+use mathlib.Core.List.{List, _++_}
+use Prim.Native.Nat.{ℕ, _+_, _-_}
+use native.Mathlib.Omega.{arith}
+use denote.Ref.{now}
+use lib.ListN.{length, take, drop}
+use Rattle.words.specs.Slices.{zeros}
+use Rattle.safe.specs.V3.{stretchedV3}
+use Rattle.safe.specs.Laying.{headOf}
+use Rattle.safe.proofs.Laying.{head-is-long, new-long, new-is, body-laid, part-is, laid-refused, laid-done}
 use borrow.Author.Needs.{needs}
 use Rattle.safe.proofs.assemble.file.Statement.{statement}
 use Rattle.safe.proofs.assemble.file.Tie as tie
-use Rattle.safe.proofs.assemble.file.Reads as reads
-use Rattle.safe.proofs.assemble.file.Lts as lts
-use Rattle.chain.proofs.cbc_encrypt.Reads as cbc-encrypt-reads
-use Rattle.file.proofs.first_marker.Reads as first-marker-reads
-use Rattle.file.proofs.marker.Reads as marker-reads
-use Rattle.safe.proofs.assemble.head.Reads as head-reads
-use Rattle.safe.proofs.seal.seal.Reads as seal-reads
-use Rattle.safe.proofs.values.lay.Reads as lay-reads
-use Rattle.words.proofs.slices.zero.Reads as zero-reads
 
--- src/assemble.rt:64:5
-head-requires : tie.Need-head-requires
-head-requires c κs = search needs
-
--- src/assemble.rt:66:13
-add-e : tie.Need-add-e
-add-e c = search needs
-
--- src/assemble.rt:67:37
-sub-cbc-encrypt : tie.Need-sub-cbc-encrypt
-sub-cbc-encrypt c = search needs
-
--- src/assemble.rt:67:37
-part-cbc-encrypt-start : tie.Need-part-cbc-encrypt-start
-part-cbc-encrypt-start c = search needs
-
--- src/assemble.rt:67:37
-part-cbc-encrypt-end : tie.Need-part-cbc-encrypt-end
-part-cbc-encrypt-end c = search needs
-
--- src/assemble.rt:67:5
-cbc-encrypt-requires : tie.Need-cbc-encrypt-requires
-cbc-encrypt-requires c κs = search needs
-
--- src/assemble.rt:68:21
-sub-first-marker : tie.Need-sub-first-marker
-sub-first-marker c = search needs
-
--- src/assemble.rt:68:21
-part-first-marker-start : tie.Need-part-first-marker-start
-part-first-marker-start c = search needs
-
--- src/assemble.rt:68:21
-part-first-marker-end : tie.Need-part-first-marker-end
-part-first-marker-end c = search needs
-
--- src/assemble.rt:68:8
-first-marker-requires : tie.Need-first-marker-requires
-first-marker-requires c κs = search needs
-
--- src/assemble.rt:69:9
-zero-requires : tie.Need-zero-requires
-zero-requires c κs = search needs
-
--- src/assemble.rt:70:9
-same-length : tie.Need-same-length
-same-length c = search needs
-
--- src/assemble.rt:70:9
 returns : tie.Need-returns
-returns c = search needs
+returns c =
+    let t = c .before .before .before .before .before .before .before .before .before .before .before .before .before .before .before .before .before .before .before in
+    let body = now (t .args .body) in
+    let K = now (t .args .k) in
+    let iv = now (t .args .iv) in
+    let n = length (now (t .args .output)) in
+    let H = headOf (stretchedV3 (now (t .args .passphrase)) (now (t .args .salt)) (t .args .iter)) (now (t .args .salt)) (t .args .iter) K (now (t .args .l)) iv in
+    let o1 = c .before .before .before .before .before .before .before .before .before .before .before .before .before .before .head .last .1 .1 .1 .1 .1 .1 .0 in
+    let new = c .before .before .before .before .before .before .before .before .before .before .cbc-encrypt .last .1 .1 .1 .0 in
+    let h : 200 + length body ≤ n = omega (arith, t .pre .1) in
+    let lo : length o1 ≡ n = omega (arith, c .before .before .before .before .before .before .before .before .before .before .before .before .before .output .given) in
+    let ln : length new ≡ length (take (152 + length body - 152) (drop 152 o1)) = c .before .before .before .before .before .before .before .before .before .output2 .given .0 in
+    let e1 = c .before .before .before .before .before .before .before .before .before .before .before .before .before .before .head .ensures in
+    let en = c .before .before .before .before .before .before .before .before .before .before .cbc-encrypt .ensures in
+    let l2 = c .before .before .before .before .before .before .before .before .before .output2 .given .1 in
+    let o2 : List ℕ = take 152 o1 ++ (new ++ drop (152 + length body - 152) (drop 152 o1)) in
+    let l3 : length o2 ≡ n = omega (arith, l2, lo) in
+    laid-refused (now (t .args .passphrase)) (now (t .args .salt)) (t .args .iter) K (now (t .args .l)) iv body n new _
+    (new-is H K iv body o1 new n h (t .pre .2) lo e1 ln en) (new-long H K iv body o1 new n h (t .pre .2) lo e1 ln en) (c .before .before .before .before .before .first-marker .ensures) (part-is H K iv body o1 new n h (t .pre .2) lo e1 ln en _ refl) (c .before .before .before .before .if1 .taken) (c .before .before .zero .ensures ∙ ap zeros l3)
 
--- src/assemble.rt:72:13
-marker-requires : tie.Need-marker-requires
-marker-requires c κs = search needs
-
--- src/assemble.rt:73:20
-slice-aggregate-lay : tie.Need-slice-aggregate-lay
-slice-aggregate-lay c = search needs
-
--- src/assemble.rt:73:5
-lay-requires : tie.Need-lay-requires
-lay-requires c κs = search needs
-
--- src/assemble.rt:74:15
-seal-requires : tie.Need-seal-requires
-seal-requires c κs = search needs
-
--- src/assemble.rt:75:17
 add-lay : tie.Need-add-lay
-add-lay c = search needs
+add-lay c = omega (arith, c .before .before .before .before .before .before .before .before .before .before .before .before .before .before .before .before .before .before .before .before .before .before .before .pre .1, c .before .before .before .before .before .before .before .before .before .before .before .before .before .before .before .before .before .before .before .before .before .before .before .good)
 
--- src/assemble.rt:75:25
-slice-aggregate-lay-2 : tie.Need-slice-aggregate-lay-2
-slice-aggregate-lay-2 c = search needs
-
--- src/assemble.rt:75:5
-lay-requires-2 : tie.Need-lay-requires-2
-lay-requires-2 c κs = search needs
-
--- src/assemble.rt:51:1
-same-length-2 : tie.Need-same-length-2
-same-length-2 c = search needs
-
--- src/assemble.rt:51:1
 returns-2 : tie.Need-returns-2
-returns-2 c = search needs
+returns-2 c =
+    let t = c .before .before .before .before .before .before .before .before .before .before .before .before .before .before .before .before .before .before .before .before .before .before .before .before .before .before .before in
+    let body = now (t .args .body) in
+    let K = now (t .args .k) in
+    let iv = now (t .args .iv) in
+    let n = length (now (t .args .output)) in
+    let H = headOf (stretchedV3 (now (t .args .passphrase)) (now (t .args .salt)) (t .args .iter)) (now (t .args .salt)) (t .args .iter) K (now (t .args .l)) iv in
+    let o1 = c .before .before .before .before .before .before .before .before .before .before .before .before .before .before .before .before .before .before .before .before .before .before .head .last .1 .1 .1 .1 .1 .1 .0 in
+    let new = c .before .before .before .before .before .before .before .before .before .before .before .before .before .before .before .before .before .before .cbc-encrypt .last .1 .1 .1 .0 in
+    let h : 200 + length body ≤ n = omega (arith, t .pre .1) in
+    let lo : length o1 ≡ n = omega (arith, c .before .before .before .before .before .before .before .before .before .before .before .before .before .before .before .before .before .before .before .before .before .output .given) in
+    let ln : length new ≡ length (take (152 + length body - 152) (drop 152 o1)) = c .before .before .before .before .before .before .before .before .before .before .before .before .before .before .before .before .before .output2 .given .0 in
+    let e1 = c .before .before .before .before .before .before .before .before .before .before .before .before .before .before .before .before .before .before .before .before .before .before .head .ensures in
+    let en = c .before .before .before .before .before .before .before .before .before .before .before .before .before .before .before .before .before .before .cbc-encrypt .ensures in
+    laid-done (now (t .args .passphrase)) (now (t .args .salt)) (t .args .iter) K (now (t .args .l)) iv body n new _ _ _ h
+    (new-is H K iv body o1 new n h (t .pre .2) lo e1 ln en) (new-long H K iv body o1 new n h (t .pre .2) lo e1 ln en) (head-is-long H K iv body o1 new n h (t .pre .2) lo e1 ln en) (c .before .before .before .before .before .before .before .before .before .before .before .before .before .first-marker .ensures) (part-is H K iv body o1 new n h (t .pre .2) lo e1 ln en _ refl) (c .before .before .before .before .before .before .before .before .before .before .before .before .if1 .left)
+    (c .before .before .before .before .before .before .before .before .before .before .before .marker .ensures) (c .before .before .before .before .before .seal .ensures) (ap length (c .before .before .before .before .before .seal .ensures) ∙ hmac-sized _ _ .long) (body-laid H K iv body o1 new n h (t .pre .2) lo e1 ln en _ refl) (c .before .before .before .before .before .before .before .before .lay .ensures) (c .before .before .lay2 .ensures)
 
 pub file-spec : {M : Type 1} → statement M
 file-spec =
     tie.close
     (tie.spec
-    head-requires
-    add-e
-    sub-cbc-encrypt
-    part-cbc-encrypt-start
-    part-cbc-encrypt-end
-    cbc-encrypt-requires
-    sub-first-marker
-    part-first-marker-start
-    part-first-marker-end
-    first-marker-requires
-    zero-requires
-    same-length
+    (λ c κs. search needs)
+    (λ c. search needs)
+    (λ c. search needs)
+    (λ c. search needs)
+    (λ c. search needs)
+    (λ c κs. search needs)
+    (λ c. search needs)
+    (λ c. search needs)
+    (λ c. search needs)
+    (λ c κs. search needs)
+    (λ c κs. search needs)
+    (λ c. search needs)
     returns
-    marker-requires
-    slice-aggregate-lay
-    lay-requires
-    seal-requires
+    (λ c κs. search needs)
+    (λ c. search needs)
+    (λ c κs. search needs)
+    (λ c κs. search needs)
     add-lay
-    slice-aggregate-lay-2
-    lay-requires-2
-    same-length-2
+    (λ c. search needs)
+    (λ c κs. search needs)
+    (λ c. search needs)
     returns-2)

@@ -1,57 +1,48 @@
+-- `safe::open::judged` meets its contract: a body that is not well formed and one of another HMAC get the same answer.
+use mathlib.Core.Path.{_≡_, refl, sym, ap, _∙_}
+use Rattle.body.specs.Decision.{judgedOf}
+use Rattle.body.proofs.Answers.{judged-counts, judged-not}
+use Rattle.safe.specs.Steps.{verdictOf}
+use Rattle.words.specs.Slices.{same}
+use mathlib.Core.List.{List}
+use Prim.Native.Nat.{ℕ}
 use borrow.Author.Needs.{needs}
 use Rattle.safe.proofs.open.judged.Statement.{statement}
 use Rattle.safe.proofs.open.judged.Tie as tie
-use Rattle.safe.proofs.open.judged.Reads as reads
-use Rattle.safe.proofs.open.judged.Lts as lts
-use Rattle.body.proofs.judge.Reads as judge-reads
-use Rattle.safe.proofs.seal.seal.Reads as seal-reads
-use Rattle.words.proofs.slices.same.Reads as same-reads
 
--- src/open.rt:57:9
-judge-requires : tie.Need-judge-requires
-judge-requires c κs = search needs
-
-enum-told : tie.Need-enum-told
-enum-told c = search needs
-
--- src/open.rt:59:9
-enum-told-2 : tie.Need-enum-told-2
-enum-told-2 c = search needs
-
--- src/open.rt:59:9
 returns : tie.Need-returns
-returns c = search needs
+unfolding verdictOf
+returns c = rw (judged-not (c .before .before .before .before .before .args .body .now) (sym (c .before .before .judge .ensures) ∙ c .enum-told2 .given .1))
 
--- src/open.rt:61:13
 seal-requires : tie.Need-seal-requires
-seal-requires c κs = search needs
+seal-requires c κs = judged-counts (c .before .before .before .before .before .args .body .now) _ _ (sym (c .before .before .judge .ensures) ∙ c .enum-told .given .1)
 
--- src/open.rt:62:13
-slice-aggregate-same : tie.Need-slice-aggregate-same
-slice-aggregate-same c = search needs
-
--- src/open.rt:62:8
-same-requires : tie.Need-same-requires
-same-requires c κs = search needs
-
--- src/open.rt:63:9
 returns-2 : tie.Need-returns-2
-returns-2 c = search needs
+unfolding verdictOf judgedOf
+returns-2 c =
+    let a = c .before .before .before .before .before .before .before .before .before .args in
+    let well = judged-counts (a .body .now) _ _ (sym (c .before .before .before .before .before .before .judge .ensures) ∙ c .before .before .before .before .enum-told .given .1) in
+    let hmac = ap (λ (m : List ℕ). same m (a .mac .now)) (sym (c .before .before .before .seal .ensures)) ∙ sym (c .before .same .ensures) ∙ c .if1 .taken in
+    c .before .before .before .before .before .before .judge .ensures ∙ rw (well, hmac)
 
--- src/open.rt:54:1
 returns-3 : tie.Need-returns-3
-returns-3 c = search needs
+unfolding verdictOf
+returns-3 c =
+    let a = c .before .before .before .before .before .before .before .before .before .args in
+    let well = judged-counts (a .body .now) _ _ (sym (c .before .before .before .before .before .before .judge .ensures) ∙ c .before .before .before .before .enum-told .given .1) in
+    let hmac = ap (λ (m : List ℕ). same m (a .mac .now)) (sym (c .before .before .before .seal .ensures)) ∙ sym (c .before .same .ensures) ∙ c .if1 .left in
+    rw (well, hmac)
 
 pub judged-spec : {M : Type 1} → statement M
 judged-spec =
     tie.close
     (tie.spec
-    judge-requires
-    enum-told
-    enum-told-2
+    (λ c κs. search needs)
+    (λ c. search needs)
+    (λ c. search needs)
     returns
     seal-requires
-    slice-aggregate-same
-    same-requires
+    (λ c. search needs)
+    (λ c κs. search needs)
     returns-2
     returns-3)

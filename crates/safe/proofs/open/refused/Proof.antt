@@ -1,12 +1,14 @@
+-- `safe::open::refused` meets its contract: it is the definition.
+use mathlib.Core.Path.{refl}
+use Rattle.file.specs.Reading.{refused}
+use Rattle.safe.specs.Answers.{reported}
 use borrow.Author.Needs.{needs}
 use Rattle.safe.proofs.open.refused.Statement.{statement}
 use Rattle.safe.proofs.open.refused.Tie as tie
-use Rattle.safe.proofs.open.refused.Reads as reads
-use Rattle.safe.proofs.open.refused.Lts as lts
 
--- src/open.rt:29:1
 returns : tie.Need-returns
-returns c = search needs
+unfolding reported refused
+returns c = refl
 
 pub refused-spec : {M : Type 1} → statement M
 refused-spec = tie.close (tie.spec returns)

@@ -1,70 +1,108 @@
+-- `safe::tests::reading` meets its contract: each return has passed the tests before it.
+use mathlib.Core.Path.{_≡_, sym, ap, _∙_}
+use Prim.Native.Nat.{ℕ, _-_}
+use native.Mathlib.Omega.{arith}
+use lib.Dec.{ltb}
+use lib.ListN.{length}
+use borrow.Author.Tests.{lt-ltb, le-ltb}
+use Rattle.file.specs.Layout.{split}
+use Rattle.file.specs.Reading.{earlyTests}
+use Rattle.file.proofs.Accepted.{good-length}
+use Rattle.safe.specs.V3.{v3}
 use borrow.Author.Needs.{needs}
 use Rattle.safe.proofs.tests.reading.Statement.{statement}
 use Rattle.safe.proofs.tests.reading.Tie as tie
-use Rattle.safe.proofs.tests.reading.Reads as reads
-use Rattle.safe.proofs.tests.reading.Lts as lts
-use Rattle.file.proofs.bad_length.Reads as bad-length-reads
-use Rattle.safe.proofs.tests.wrong_marker.Reads as wrong-marker-reads
-use Rattle.safe.proofs.tests.wrong_tag.Reads as wrong-tag-reads
-use Rattle.safe.proofs.values.iter.Reads as iter-reads
 
--- src/tests.rt:46:8
-bad-length-requires : tie.Need-bad-length-requires
-bad-length-requires c κs = search needs
-
--- src/tests.rt:47:9
 returns : tie.Need-returns
-returns c = search needs
+unfolding earlyTests v3 split
+returns c = rw (sym (c .before .bad-length .ensures) ∙ c .if1 .taken)
 
--- src/tests.rt:50:9
 returns-2 : tie.Need-returns-2
-returns-2 c = search needs
+unfolding earlyTests v3 split
+returns-2 c = rw (
+  sym (c .before .before .bad-length .ensures) ∙ c .before .if1 .left,
+  lt-ltb 1024 (length (c .before .before .before .before .before .args .passphrase .now)) (c .if2 .taken),
+)
 
--- src/tests.rt:52:13
 sub-n : tie.Need-sub-n
-sub-n c = search needs
+sub-n c = let g = good-length (length (c .before .before .before .before .before .args .file .now)) (sym (c .before .before .bad-length .ensures) ∙ c .before .if1 .left) in omega arith
 
--- src/tests.rt:54:9
 returns-3 : tie.Need-returns-3
-returns-3 c = search needs
+unfolding earlyTests v3 split
+returns-3 c = rw (
+  sym (c .before .before .before .bad-length .ensures) ∙ c .before .before .if1 .left,
+  le-ltb 1024 (length (c .before .before .before .before .before .before .args .passphrase .now)) (c .before .if2 .left),
+  lt-ltb (c .before .before .before .before .before .before .args .room) (length (c .before .before .before .before .before .before .args .file .now) - 200) (c .if3 .taken),
+)
 
--- src/tests.rt:56:8
 wrong-tag-requires : tie.Need-wrong-tag-requires
-wrong-tag-requires c κs = search needs
+wrong-tag-requires c κs = let g = good-length (length (c .before .before .before .before .before .before .args .file .now)) (sym (c .before .before .before .bad-length .ensures) ∙ c .before .before .if1 .left) in omega arith
 
--- src/tests.rt:57:9
 returns-4 : tie.Need-returns-4
-returns-4 c = search needs
+unfolding earlyTests v3 split
+returns-4 c = rw (
+  sym (c .before .before .before .before .before .bad-length .ensures) ∙ c .before .before .before .before .if1 .left,
+  le-ltb 1024 (length (c .before .before .before .before .before .before .before .before .args .passphrase .now)) (c .before .before .before .if2 .left),
+  le-ltb (c .before .before .before .before .before .before .before .before .args .room) (length (c .before .before .before .before .before .before .before .before .args .file .now) - 200) (c .before .before .if3 .left),
+  sym (c .before .wrong-tag .ensures) ∙ c .if4 .taken,
+)
 
--- src/tests.rt:59:9
 iter-requires : tie.Need-iter-requires
-iter-requires c κs = search needs
+iter-requires c κs = let g = good-length (length (c .before .before .before .before .before .before .before .before .args .file .now)) (sym (c .before .before .before .before .before .bad-length .ensures) ∙ c .before .before .before .before .if1 .left) in omega arith
 
--- src/tests.rt:61:9
 returns-5 : tie.Need-returns-5
-returns-5 c = search needs
+unfolding earlyTests v3 split
+returns-5 c = rw (
+  sym (c .before .before .before .before .before .before .before .bad-length .ensures) ∙ c .before .before .before .before .before .before .if1 .left,
+  le-ltb 1024 (length (c .before .before .before .before .before .before .before .before .before .before .args .passphrase .now)) (c .before .before .before .before .before .if2 .left),
+  le-ltb (c .before .before .before .before .before .before .before .before .before .before .args .room) (length (c .before .before .before .before .before .before .before .before .before .before .args .file .now) - 200) (c .before .before .before .before .if3 .left),
+  sym (c .before .before .before .wrong-tag .ensures) ∙ c .before .before .if4 .left,
+  ap (λ i. ltb i 2048) (sym (c .before .iter .ensures)) ∙ lt-ltb (c .before .iter .result) 2048 (c .if5 .taken),
+)
 
--- src/tests.rt:64:9
 returns-6 : tie.Need-returns-6
-returns-6 c = search needs
+unfolding earlyTests v3 split
+returns-6 c = rw (
+  sym (c .before .before .before .before .before .before .before .before .bad-length .ensures) ∙ c .before .before .before .before .before .before .before .if1 .left,
+  le-ltb 1024 (length (c .before .before .before .before .before .before .before .before .before .before .before .args .passphrase .now)) (c .before .before .before .before .before .before .if2 .left),
+  le-ltb (c .before .before .before .before .before .before .before .before .before .before .before .args .room) (length (c .before .before .before .before .before .before .before .before .before .before .before .args .file .now) - 200) (c .before .before .before .before .before .if3 .left),
+  sym (c .before .before .before .before .wrong-tag .ensures) ∙ c .before .before .before .if4 .left,
+  ap (λ i. ltb i 2048) (sym (c .before .before .iter .ensures)) ∙ le-ltb (c .before .before .iter .result) 2048 (c .before .if5 .left),
+  ap (ltb (c .before .before .before .before .before .before .before .before .before .before .before .args .ceiling)) (sym (c .before .before .iter .ensures)) ∙ lt-ltb (c .before .before .before .before .before .before .before .before .before .before .before .args .ceiling) (c .before .before .iter .result) (c .if6 .taken),
+)
 
--- src/tests.rt:66:8
 wrong-marker-requires : tie.Need-wrong-marker-requires
-wrong-marker-requires c κs = search needs
+wrong-marker-requires c κs = let g = good-length (length (c .before .before .before .before .before .before .before .before .before .before .before .args .file .now)) (sym (c .before .before .before .before .before .before .before .before .bad-length .ensures) ∙ c .before .before .before .before .before .before .before .if1 .left) in omega arith
 
--- src/tests.rt:67:9
 returns-7 : tie.Need-returns-7
-returns-7 c = search needs
+unfolding earlyTests v3 split
+returns-7 c = rw (
+  sym (c .before .before .before .before .before .before .before .before .before .before .bad-length .ensures) ∙ c .before .before .before .before .before .before .before .before .before .if1 .left,
+  le-ltb 1024 (length (c .before .before .before .before .before .before .before .before .before .before .before .before .before .args .passphrase .now)) (c .before .before .before .before .before .before .before .before .if2 .left),
+  le-ltb (c .before .before .before .before .before .before .before .before .before .before .before .before .before .args .room) (length (c .before .before .before .before .before .before .before .before .before .before .before .before .before .args .file .now) - 200) (c .before .before .before .before .before .before .before .if3 .left),
+  sym (c .before .before .before .before .before .before .wrong-tag .ensures) ∙ c .before .before .before .before .before .if4 .left,
+  ap (λ i. ltb i 2048) (sym (c .before .before .before .before .iter .ensures)) ∙ le-ltb (c .before .before .before .before .iter .result) 2048 (c .before .before .before .if5 .left),
+  ap (ltb (c .before .before .before .before .before .before .before .before .before .before .before .before .before .args .ceiling)) (sym (c .before .before .before .before .iter .ensures)) ∙ le-ltb (c .before .before .before .before .before .before .before .before .before .before .before .before .before .args .ceiling) (c .before .before .before .before .iter .result) (c .before .before .if6 .left),
+  sym (c .before .wrong-marker .ensures) ∙ c .if7 .taken,
+)
 
--- src/tests.rt:43:1
 returns-8 : tie.Need-returns-8
-returns-8 c = search needs
+unfolding earlyTests v3 split
+returns-8 c = rw (
+  sym (c .before .before .before .before .before .before .before .before .before .before .bad-length .ensures) ∙ c .before .before .before .before .before .before .before .before .before .if1 .left,
+  le-ltb 1024 (length (c .before .before .before .before .before .before .before .before .before .before .before .before .before .args .passphrase .now)) (c .before .before .before .before .before .before .before .before .if2 .left),
+  le-ltb (c .before .before .before .before .before .before .before .before .before .before .before .before .before .args .room) (length (c .before .before .before .before .before .before .before .before .before .before .before .before .before .args .file .now) - 200) (c .before .before .before .before .before .before .before .if3 .left),
+  sym (c .before .before .before .before .before .before .wrong-tag .ensures) ∙ c .before .before .before .before .before .if4 .left,
+  ap (λ i. ltb i 2048) (sym (c .before .before .before .before .iter .ensures)) ∙ le-ltb (c .before .before .before .before .iter .result) 2048 (c .before .before .before .if5 .left),
+  ap (ltb (c .before .before .before .before .before .before .before .before .before .before .before .before .before .args .ceiling)) (sym (c .before .before .before .before .iter .ensures)) ∙ le-ltb (c .before .before .before .before .before .before .before .before .before .before .before .before .before .args .ceiling) (c .before .before .before .before .iter .result) (c .before .before .if6 .left),
+  sym (c .before .wrong-marker .ensures) ∙ c .if7 .left,
+)
 
 pub reading-spec : {M : Type 1} → statement M
 reading-spec =
     tie.close
     (tie.spec
-    bad-length-requires
+    (λ c κs. search needs)
     returns
     returns-2
     sub-n

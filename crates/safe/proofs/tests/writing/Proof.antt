@@ -1,57 +1,73 @@
+-- `safe::tests::writing` meets its contract: each return has passed the tests before it.
+use mathlib.Core.Path.{_≡_, sym, ap, _∙_}
+use Prim.Native.Nat.{ℕ, _+_}
+use lib.Dec.{ltb}
+use lib.ListN.{length}
+use borrow.Author.Tests.{lt-ltb, le-ltb}
+use Rattle.file.specs.Writing.{earlyWriteTests}
+use Rattle.safe.specs.V3.{v3}
 use borrow.Author.Needs.{needs}
 use Rattle.safe.proofs.tests.writing.Statement.{statement}
 use Rattle.safe.proofs.tests.writing.Tie as tie
-use Rattle.safe.proofs.tests.writing.Reads as reads
-use Rattle.safe.proofs.tests.writing.Lts as lts
-use Rattle.file.proofs.bad_body.Reads as bad-body-reads
-use Rattle.safe.proofs.tests.bad_fields.Reads as bad-fields-reads
 
--- src/tests.rt:85:8
-bad-body-requires : tie.Need-bad-body-requires
-bad-body-requires c κs = search needs
-
--- src/tests.rt:86:9
 returns : tie.Need-returns
-returns c = search needs
+unfolding earlyWriteTests v3
+returns c = rw (sym (c .before .bad-body .ensures) ∙ c .if1 .taken)
 
--- src/tests.rt:89:9
 returns-2 : tie.Need-returns-2
-returns-2 c = search needs
+unfolding earlyWriteTests v3
+returns-2 c = rw (
+  sym (c .before .before .bad-body .ensures) ∙ c .before .if1 .left,
+  lt-ltb 1024 (length (c .before .before .before .before .before .args .passphrase .now)) (c .if2 .taken),
+)
 
--- src/tests.rt:91:15
-add-if3 : tie.Need-add-if3
-add-if3 c = search needs
-
--- src/tests.rt:92:9
 returns-3 : tie.Need-returns-3
-returns-3 c = search needs
+unfolding earlyWriteTests v3
+returns-3 c = rw (
+  sym (c .before .before .before .bad-body .ensures) ∙ c .before .before .if1 .left,
+  le-ltb 1024 (length (c .before .before .before .before .before .before .args .passphrase .now)) (c .before .if2 .left),
+  lt-ltb (c .before .before .before .before .before .before .args .room) (length (c .before .before .before .before .before .before .args .body .now) + 200) (c .if3 .taken),
+)
 
--- src/tests.rt:95:9
 returns-4 : tie.Need-returns-4
-returns-4 c = search needs
+unfolding earlyWriteTests v3
+returns-4 c = rw (
+  sym (c .before .before .before .before .bad-body .ensures) ∙ c .before .before .before .if1 .left,
+  le-ltb 1024 (length (c .before .before .before .before .before .before .before .args .passphrase .now)) (c .before .before .if2 .left),
+  le-ltb (c .before .before .before .before .before .before .before .args .room) (length (c .before .before .before .before .before .before .before .args .body .now) + 200) (c .before .if3 .left),
+  lt-ltb (c .before .before .before .before .before .before .before .args .iter) 2048 (c .if4 .taken),
+)
 
--- src/tests.rt:97:8
-bad-fields-requires : tie.Need-bad-fields-requires
-bad-fields-requires c κs = search needs
-
--- src/tests.rt:98:9
 returns-5 : tie.Need-returns-5
-returns-5 c = search needs
+unfolding earlyWriteTests v3
+returns-5 c = rw (
+  sym (c .before .before .before .before .before .before .bad-body .ensures) ∙ c .before .before .before .before .before .if1 .left,
+  le-ltb 1024 (length (c .before .before .before .before .before .before .before .before .before .args .passphrase .now)) (c .before .before .before .before .if2 .left),
+  le-ltb (c .before .before .before .before .before .before .before .before .before .args .room) (length (c .before .before .before .before .before .before .before .before .before .args .body .now) + 200) (c .before .before .before .if3 .left),
+  le-ltb (c .before .before .before .before .before .before .before .before .before .args .iter) 2048 (c .before .before .if4 .left),
+  sym (c .before .bad-fields .ensures) ∙ c .if5 .taken,
+)
 
--- src/tests.rt:82:1
 returns-6 : tie.Need-returns-6
-returns-6 c = search needs
+unfolding earlyWriteTests v3
+returns-6 c = rw (
+  sym (c .before .before .before .before .before .before .bad-body .ensures) ∙ c .before .before .before .before .before .if1 .left,
+  le-ltb 1024 (length (c .before .before .before .before .before .before .before .before .before .args .passphrase .now)) (c .before .before .before .before .if2 .left),
+  le-ltb (c .before .before .before .before .before .before .before .before .before .args .room) (length (c .before .before .before .before .before .before .before .before .before .args .body .now) + 200) (c .before .before .before .if3 .left),
+  le-ltb (c .before .before .before .before .before .before .before .before .before .args .iter) 2048 (c .before .before .if4 .left),
+  sym (c .before .bad-fields .ensures) ∙ c .if5 .left,
+)
 
 pub writing-spec : {M : Type 1} → statement M
 writing-spec =
     tie.close
     (tie.spec
-    bad-body-requires
+    (λ c κs. search needs)
     returns
     returns-2
-    add-if3
+    (λ c. search needs)
     returns-3
     returns-4
-    bad-fields-requires
+    (λ c κs. search needs)
     returns-5
     returns-6)

@@ -1,62 +1,35 @@
+-- `safe::wrap::wrap` meets its contract: the two keys are laid side by side, and encrypted.
+use mathlib.Core.Path.{_≡_, refl, sym, ap, _∙_}
+use mathlib.Core.List.{List, [], _++_, append-nil}
+use native.Mathlib.Omega.{arith}
+use denote.Ref.{now}
+use lib.ListN.{length, replicate}
+use Rattle.words.specs.Slices.{zeros}
+use Rattle.safe.proofs.Slots.{laid}
+use Rattle.safe.proofs.Opened.{wrapped-is}
 use borrow.Author.Needs.{needs}
 use Rattle.safe.proofs.wrap.wrap.Statement.{statement}
 use Rattle.safe.proofs.wrap.wrap.Tie as tie
-use Rattle.safe.proofs.wrap.wrap.Reads as reads
-use Rattle.safe.proofs.wrap.wrap.Lts as lts
-use Rattle.chain.proofs.ecb_encrypt.Reads as ecb-encrypt-reads
-use Rattle.words.proofs.slices.copy.Reads as copy-reads
 
--- src/wrap.rt:37:10
-array-borrow-prefix-w : tie.Need-array-borrow-prefix-w
-array-borrow-prefix-w c = search needs
-
--- src/wrap.rt:37:10
-slice-aggregate-copy : tie.Need-slice-aggregate-copy
-slice-aggregate-copy c = search needs
-
--- src/wrap.rt:37:5
-copy-requires : tie.Need-copy-requires
-copy-requires c κs = search needs
-
--- src/wrap.rt:38:10
-sub-copy : tie.Need-sub-copy
-sub-copy c = search needs
-
--- src/wrap.rt:38:10
-part-w-start : tie.Need-part-w-start
-part-w-start c = search needs
-
--- src/wrap.rt:38:10
-part-w-end : tie.Need-part-w-end
-part-w-end c = search needs
-
--- src/wrap.rt:38:5
-copy-requires-2 : tie.Need-copy-requires-2
-copy-requires-2 c κs = search needs
-
--- src/wrap.rt:39:29
-slice-aggregate-ecb-encrypt : tie.Need-slice-aggregate-ecb-encrypt
-slice-aggregate-ecb-encrypt c = search needs
-
--- src/wrap.rt:39:5
-ecb-encrypt-requires : tie.Need-ecb-encrypt-requires
-ecb-encrypt-requires c κs = search needs
-
--- src/wrap.rt:33:1
 returns : tie.Need-returns
-returns c = search needs
+returns c =
+    let a = c .before .before .before .before .before .before .before .before .before .before .before .args in
+    let K = now (a .k) in
+    let L = now (a .l) in
+    let hK : length K ≡ 32 = omega (arith, c .before .before .before .before .before .before .before .before .before .lay-arg .given) in
+    let hL : length L ≡ 32 = omega (arith, c .before .before .before .before .before .lay-arg2 .given) in
+    let first = laid [] K 64 32 refl (omega arith) refl (c .before .before .before .before .before .before .before .before .lay .ensures) in
+    let second = laid K L 32 0 (sym hK) (omega arith) first (c .before .before .before .before .lay2 .ensures) in
+    (wrapped-is (now (a .key)) K L _ _ hK hL (second ∙ append-nil (K ++ L)) (c .before .ecb-encrypt .ensures), c .w6 .given)
 
 pub wrap-spec : {M : Type 1} → statement M
 wrap-spec =
     tie.close
     (tie.spec
-    array-borrow-prefix-w
-    slice-aggregate-copy
-    copy-requires
-    sub-copy
-    part-w-start
-    part-w-end
-    copy-requires-2
-    slice-aggregate-ecb-encrypt
-    ecb-encrypt-requires
+    (λ c. search needs)
+    (λ c κs. search needs)
+    (λ c. search needs)
+    (λ c κs. search needs)
+    (λ c. search needs)
+    (λ c κs. search needs)
     returns)

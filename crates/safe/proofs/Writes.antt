@@ -1,0 +1,68 @@
+-- The answers of writing: an early refusal, or what the laying out comes to. By the table of tests, of which the last follows the others.
+use Prim.Native.Nat.{ℕ, _+_, _-_, _*_, _/_, _≤_}
+use mathlib.Core.Path.{_≡_, refl, sym, ap, _∙_}
+use mathlib.Core.Bool.{Bool, true, false, not}
+use mathlib.Core.List.{List, [], _∷_, _++_}
+use native.Mathlib.Omega.{arith}
+use borrow.Author.Tests.{not-false, ltb-false}
+use lib.ListN.{length}
+use Rattle.words.specs.Slices.{zeros}
+use Rattle.body.specs.Decision.{wellFormed}
+use Rattle.file.specs.Refusals.{Test, deciding, refuse-if}
+use Rattle.file.specs.Description.{cbc}
+use Rattle.file.specs.Writing.{Writing, unwritten, clear, earlyWriteTests, writeTests, written, writingOf}
+use Rattle.file.proofs.Tables.{Decided, passes, stops, decide, first-between, by-zero, by-number, deciding-append}
+use Rattle.file.proofs.Written.{good-body}
+use Rattle.safe.specs.V3.{v3}
+use Rattle.safe.specs.Answers.{refusalNumber, earlyNumber}
+use Rattle.safe.specs.Laying.{Laid}
+use Rattle.safe.specs.declared.Refusal.{Refusal}
+use Rattle.safe.specs.declared.Early.{Early}
+use Rattle.safe.specs.declared.Early.the-variants as Early
+use Rattle.safe.proofs.Verdicts.{positive}
+
+module _ (pass : List ℕ) (iter : ℕ) (body : List ℕ) (room : ℕ) where
+  abbrev early : List Test
+  early = earlyWriteTests v3 pass iter body room
+
+  abbrev comes : ℕ
+  comes = deciding (λ (n : ℕ). n) early 0
+
+  pub passed-writing : {t : Early} → earlyNumber t ≡ comes → t ≡ Early.Passed
+      → (length body + 200 ≤ room) × (length body ≡ 16 * (length body / 16)) × (wellFormed body ≡ true)
+  unfolding earlyWriteTests v3
+  passed-writing e f =
+      let g : 0 ≡ comes = sym (ap earlyNumber f) ∙ e in
+      go (decide (λ (n : ℕ). n) 0 early) g
+    where
+      go : Decided (λ (n : ℕ). n) early 0 → 0 ≡ comes → (length body + 200 ≤ room) × (length body ≡ 16 * (length body / 16)) × (wellFormed body ≡ true)
+      go (passes t q) g =
+          let l = good-body (length body) (t .0) in
+          (ltb-false room (length body + 200) (t .1 .1 .0), omega arith, not-false (wellFormed body) (t .1 .1 .1 .1 .0))
+      go (stops k h q) g = let b = first-between 1 9 k {ts = early} refl h in absurd (omega arith)
+
+  module _ (salt K L iv : List ℕ) where
+    abbrev last : List Test
+    last = refuse-if 10 (not (clear (length body / 16) (cbc v3 K iv body))) ∷ []
+
+    apart : writingOf v3 pass salt iter K L iv body room
+        ≡ deciding (λ (k : ℕ). unwritten k room) early (deciding (λ (k : ℕ). unwritten k room) last (written v3 pass salt iter K L iv body room))
+    unfolding writingOf writeTests
+    apart = deciding-append (λ (k : ℕ). unwritten k room) early last (written v3 pass salt iter K L iv body room)
+
+    pub writes-refused : (x : Refusal) {t : Early} {out : List ℕ} → earlyNumber t ≡ comes → t ≡ Early.Refused x → out ≡ zeros room
+        → (refusalNumber x ≡ writingOf v3 pass salt iter K L iv body room .number) × (out ≡ writingOf v3 pass salt iter K L iv body room .output)
+    unfolding earlyWriteTests v3 unwritten
+    writes-refused x e f z =
+        let g : refusalNumber x ≡ comes = sym (ap earlyNumber f) ∙ e in
+        let w = apart ∙ by-number (λ (k : ℕ). unwritten k room) (deciding (λ (k : ℕ). unwritten k room) last (written v3 pass salt iter K L iv body room)) 9 early refl g (positive x) in
+        (sym (ap (λ (y : Writing). y .number) w), z ∙ sym (ap (λ (y : Writing). y .output) w))
+
+    pub writes-laid : {t : Early} {n k : ℕ} {out : List ℕ} → earlyNumber t ≡ comes → t ≡ Early.Passed → n ≡ room → Laid pass salt iter K L iv body n k out
+        → (k ≡ writingOf v3 pass salt iter K L iv body room .number) × (out ≡ writingOf v3 pass salt iter K L iv body room .output)
+    unfolding earlyWriteTests v3
+    writes-laid {k = k} {out = out} e f m x =
+        let g : 0 ≡ comes = sym (ap earlyNumber f) ∙ e in
+        let w = apart ∙ by-zero (λ (k : ℕ). unwritten k room) (deciding (λ (k : ℕ). unwritten k room) last (written v3 pass salt iter K L iv body room)) 9 early refl g refl in
+        let y : Laid pass salt iter K L iv body room k out = rw m at x in
+        (y .is-number ∙ sym (ap (λ (y : Writing). y .number) w), y .is-output ∙ sym (ap (λ (y : Writing). y .output) w))
