@@ -1,4 +1,6 @@
 pub mod Numbers
+pub mod Read
+pub mod Write
 pub mod Walk
 pub mod Append
 pub mod Judge
