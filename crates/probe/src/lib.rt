@@ -25,6 +25,20 @@ pub extern "C" fn probe_hmac(key: &[u8], m: &[u8], out: &mut [u8; 32])
     *out = h;
 }
 
+// Where the piece from i on ends; n is the message's length.
+fn until(i: usize, piece: usize, n: usize) -> usize
+    requires { ⌜ i < n ⌝ }
+    ensures { λ r. ⌜ (i < r) × (r ≤ n) ⌝ }
+{
+    if piece == 0 {
+        return i + 1;
+    }
+    if n - i <= piece {
+        return n;
+    }
+    i + piece
+}
+
 // The running hash of a message in pieces of that many bytes; 0 counts as 1.
 fn pieces(m: &[u8], piece: usize) -> [u8; 32]
     ensures { λ r. ⌜ r ≡ sha256 (now (m .entry)) ⌝ }
@@ -50,7 +64,12 @@ pub extern "C" fn probe_pieces(m: &[u8], piece: usize, out: &mut [u8; 32])
 
 // The compressions spent; `out` holds P'.
 #[no_mangle]
-pub extern "C" fn probe_stretch(passphrase: &[u8], salt: &[u8; 32], iter: u32, out: &mut [u8; 32]) -> u64
+pub extern "C" fn probe_stretch(
+    passphrase: &[u8],
+    salt: &[u8; 32],
+    iter: u32,
+    out: &mut [u8; 32],
+) -> u64
     ensures { λ r. ⌜ r ≡ stretchedOf iter (startOf (now (passphrase .entry)) (now (salt .entry))) .count ⌝ }
     ensures { λ _. ⌜ now (out .exit) ≡ keyOf (stretchedOf iter (startOf (now (passphrase .entry)) (now (salt .entry)))) ⌝ }
 {
@@ -74,18 +93,4 @@ pub extern "C" fn probe_encrypt(key: &[u8; 32], iv: &[u8; 16], from: &[u8], to: 
     ensures { λ _. ⌜ now (to .exit) ≡ sealedInto (cbcE twofishCipher (now (key .entry))) (now (iv .entry)) (now (from .entry)) (now (to .entry)) ⌝ }
 {
     chain::cbc_encrypt(key, iv, from, to);
-}
-
-// Where the piece from i on ends; n is the message's length.
-fn until(i: usize, piece: usize, n: usize) -> usize
-    requires { ⌜ i < n ⌝ }
-    ensures { λ r. ⌜ (i < r) × (r ≤ n) ⌝ }
-{
-    if piece == 0 {
-        return i + 1;
-    }
-    if n - i <= piece {
-        return n;
-    }
-    i + piece
 }

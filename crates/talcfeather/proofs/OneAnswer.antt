@@ -4,6 +4,8 @@ use mathlib.Core.Path.{_≡_, sym, _∙_}
 use mathlib.Core.Bool.{Bool}
 use mathlib.Core.List.{List}
 use Rattle.fields.specs.Stored.{Stored}
+use Rattle.talcfeather.specs.Read.{Reads}
+use Rattle.talcfeather.specs.Write.{Writes}
 use Rattle.talcfeather.specs.Walk.{Walks}
 use Rattle.talcfeather.specs.Append.{Appends}
 use Rattle.talcfeather.specs.Judge.{Judges}
@@ -23,3 +25,13 @@ module _ {n n′ : ℕ} {a a′ : List ℕ} where
 
   pub find-one : (body uuid : List ℕ) → Finds body uuid n a → Finds body uuid n′ a′ → (n ≡ n′) × (a ≡ a′)
   find-one body uuid x y = (x .is-number ∙ sym (y .is-number), x .is-answer ∙ sym (y .is-answer))
+
+  pub read-one : (file passphrase : List ℕ) (ceiling : ℕ) (before w w′ : List ℕ)
+      → Reads file passphrase ceiling before n w a → Reads file passphrase ceiling before n′ w′ a′ → (n ≡ n′) × (w ≡ w′) × (a ≡ a′)
+  read-one file passphrase ceiling before w w′ x y =
+      (x .is-number ∙ sym (y .is-number), x .is-workspace ∙ sym (y .is-workspace), x .is-answer ∙ sym (y .is-answer))
+
+  pub write-one : (passphrase salt : List ℕ) (iter : ℕ) (k l iv body before : List ℕ)
+      → Writes passphrase salt iter k l iv body before n a → Writes passphrase salt iter k l iv body before n′ a′ → (n ≡ n′) × (a ≡ a′)
+  write-one passphrase salt iter k l iv body before x y =
+      (x .is-number ∙ sym (y .is-number), x .is-output ∙ sym (y .is-output))

@@ -27,7 +27,7 @@ fn find_number(s: Sought) -> u32
     }
 }
 
-// The UUID is read as a record's field of type 01 is.
+// The UUID is read as a record's field of type 01 is; 16 bytes are always one.
 fn sought(body: &[u8], uuid: &[u8]) -> Sought
     requires { ⌜ length (now uuid) ≡ 16 ⌝ }
     ensures { λ r. ⌜ r ≡ soughtOf (now (body .entry)) (now (uuid .entry)) ⌝ }

@@ -2,14 +2,13 @@
 use super::numbers::store;
 use super::refusal::number;
 use safe::Outcome;
-use safe::Reading;
 use words::slices::copy;
 ghost use mathlib.Core.Path.{_≡_};
 ghost use mathlib.Core.List.{[], _∷_, _++_};
 ghost use lib.ListN.{length};
-ghost use Rattle.safe.specs.Answers.{outcomeNumber, headersIn, recordsIn, reported};
+ghost use Rattle.safe.specs.Answers.{outcomeNumber, headersIn, recordsIn};
 ghost use Rattle.talcfeather.specs.Numbers.{stored};
-ghost use Rattle.talcfeather.specs.Read.{readNumbers, Reads};
+ghost use Rattle.talcfeather.specs.Read.{Reads};
 
 fn outcome_number(o: Outcome) -> u32
     ensures { λ r. ⌜ r ≡ outcomeNumber o ⌝ }
@@ -34,7 +33,8 @@ fn read_numbers(o: Outcome, compressions: u64, blocks: u64) -> [u64; 4]
     }
 }
 
-fn answer_in(k: &[u8], l: &[u8], numbers: &[u64], answer: &mut [u8])
+// K, L and the numbers, each in its part of the answer.
+fn lay(k: &[u8], l: &[u8], numbers: &[u64], answer: &mut [u8])
     requires { ⌜ (length (now k) ≡ 32) × (length (now l) ≡ 32) × (length (now numbers) ≡ 4) × (length (now answer) ≡ 96) ⌝ }
     ensures { λ _. ⌜ now (answer .exit) ≡ now (k .entry) ++ (now (l .entry) ++ stored (now (numbers .entry))) ⌝ }
 {
@@ -58,6 +58,6 @@ pub extern "C" fn talc_read(
     let k = r.k;
     let l = r.l;
     let numbers = read_numbers(o, r.compressions, r.blocks);
-    answer_in(&k, &l, &numbers, answer);
+    lay(&k, &l, &numbers, answer);
     outcome_number(o)
 }

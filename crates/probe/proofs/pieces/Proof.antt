@@ -1,5 +1,5 @@
 -- `probe::pieces` meets its contract. The invariant of its loop: the state is the one after the first i bytes.
-use mathlib.Core.Path.{_≡_, refl, sym, ap, _∙_}
+use mathlib.Core.Path.{_≡_, sym, ap, _∙_}
 use Prim.Native.Nat.{_+_, _-_, _≤_}
 use native.Mathlib.Omega.{arith}
 use borrow.Author.Needs.{needs}
@@ -21,11 +21,10 @@ loop-again c =
     let m = c .before .before .before .before .before .before .before .args .m .now in
     let i = c .before .before .before .before .loop .i in
     let e = c .before .before .until .result in
-    let h : i + (e - i) ≡ e = omega arith in
-    (
+    let h : i + (e - i) ≡ e = omega arith in (
       search needs,
       c .take-in .ensures (take i m) (c .before .before .before .before .loop .inv .1)
-      ∙ ap runningOf (sym (take-add i (e - i) m) ∙ ap (λ k. take k m) h),
+          ∙ ap runningOf (sym (take-add i (e - i) m) ∙ ap (λ k. take k m) h),
     )
 
 returns : tie.Need-returns Inv-loop μ-loop

@@ -1,6 +1,6 @@
 -- `talcfeather::numbers::store` meets its contract. The invariant of its loop: the first i bytes are those of the stored numbers.
-use mathlib.Core.Path.{_≡_, refl, sym, ap, ap₂, _∙_}
-use Prim.Native.Nat.{_+_, _-_, _*_, _/_, _%_, _≤_, _<_}
+use mathlib.Core.Path.{_≡_, sym, ap, ap₂, _∙_}
+use Prim.Native.Nat.{_-_, _*_, _/_, _%_, _≤_, _<_}
 use native.Mathlib.Numerals.{add-one}
 use native.Mathlib.Nat.{zero-add}
 use native.Mathlib.Omega.{arith}
@@ -32,14 +32,13 @@ loop-again c =
     let n = stored-length (a .numbers .now) in
     let here : i < 8 * length (a .numbers .now) = omega arith in
     let r : i % 8 % 8 ≡ i % 8 = omega arith in
-    let byte = c .wide-byte .ensures ∙ ap (λ k. byteOf k (getD (a .numbers .now) (i / 8) 0)) r ∙ sym (stored-at (a .numbers .now) i here) in
-    (
+    let byte = c .wide-byte .ensures ∙ ap (λ k. byteOf k (getD (a .numbers .now) (i / 8) 0)) r ∙ sym (stored-at (a .numbers .now) i here) in (
       search needs,
       simp length-set (v .1),
       ap₂ (λ l b. set l i b) (v .2) byte
-      ∙ ap (λ k. set (paste m 0 s i) k (getD s i 0)) (sym (zero-add i))
-      ∙ paste-suc m 0 s i 0 (omega arith) (omega (arith, n))
-      ∙ ap (paste m 0 s) (sym (add-one i)),
+          ∙ ap (λ k. set (paste m 0 s i) k (getD s i 0)) (sym (zero-add i))
+          ∙ paste-suc m 0 s i 0 (omega arith) (omega (arith, n))
+          ∙ ap (paste m 0 s) (sym (add-one i)),
     )
 
 returns : tie.Need-returns Inv-loop μ-loop

@@ -7,27 +7,15 @@ use Rattle.safe.specs.declared.Outcome.{Outcome}
 use borrow.Author.Needs.{needs}
 use Rattle.talcfeather.proofs.read.read_numbers.Statement.{statement}
 use Rattle.talcfeather.proofs.read.read_numbers.Tie as tie
-use Rattle.talcfeather.proofs.read.read_numbers.Reads as reads
-use Rattle.talcfeather.proofs.read.read_numbers.Lts as lts
 
 abbrev counted : ℕ → ℕ → Outcome → List ℕ
 counted n m o = headersIn o ∷ recordsIn o ∷ n ∷ m ∷ []
 
--- src/read.rt:27:27
-enum-known-o : tie.Need-enum-known-o
-enum-known-o c = search needs
-
--- src/read.rt:33:32
-enum-told : tie.Need-enum-told
-enum-told c = search needs
-
--- src/read.rt:23:1
 returns : tie.Need-returns
 returns c = sym (ap (counted (c .before .before .before .args .compressions) (c .before .before .before .args .blocks)) (c .before .o .given .1))
 
--- src/read.rt:23:1
 returns-2 : tie.Need-returns-2
 returns-2 c = sym (ap (counted (c .before .before .args .compressions) (c .before .before .args .blocks)) (c .enum-told .given .1))
 
 pub read-numbers-spec : {M : Type 1} → statement M
-read-numbers-spec = tie.close (tie.spec enum-known-o enum-told returns returns-2)
+read-numbers-spec = tie.close (tie.spec (λ c. search needs) (λ c. search needs) returns returns-2)
