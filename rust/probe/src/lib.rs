@@ -27,9 +27,11 @@ mod raw {
         pub fn probe_encrypt(
             key: *const [u8; 32],
             iv: *const [u8; 16],
-            text: *mut u8,
+            from: *const u8,
             n: usize,
-        ) -> u64;
+            to: *mut u8,
+            room: usize,
+        );
     }
 }
 
@@ -69,7 +71,9 @@ pub fn decrypt(key: &[u8; 32], iv: &[u8; 16], text: &mut [u8]) -> u64 {
     unsafe { raw::probe_decrypt(key, iv, text.as_mut_ptr(), text.len()) }
 }
 
-/// As [`decrypt`], the other way.
-pub fn encrypt(key: &[u8; 32], iv: &[u8; 16], text: &mut [u8]) -> u64 {
-    unsafe { raw::probe_encrypt(key, iv, text.as_mut_ptr(), text.len()) }
+/// CBC from one memory into the start of another. No whole number of blocks, or no room: nothing
+/// changed.
+pub fn encrypt(key: &[u8; 32], iv: &[u8; 16], from: &[u8], to: &mut [u8]) {
+    let (room, to) = (to.len(), to.as_mut_ptr());
+    unsafe { raw::probe_encrypt(key, iv, from.as_ptr(), from.len(), to, room) }
 }

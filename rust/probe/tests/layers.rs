@@ -64,8 +64,8 @@ fn chains() {
         let text = random.bytes(16 * blocks);
         let cipher = Twofish::new(&key);
 
-        let (mut ours, mut theirs) = (text.clone(), text.clone());
-        assert_eq!(probe::encrypt(&key, &iv, &mut ours), blocks as u64);
+        let (mut ours, mut theirs) = (random.bytes(16 * blocks), text.clone());
+        probe::encrypt(&key, &iv, &text, &mut ours);
         cbc_encrypt(&cipher, &iv, &mut theirs);
         assert!(ours == theirs, "encryption, case {case}");
         assert_eq!(probe::decrypt(&key, &iv, &mut ours), blocks as u64);
@@ -86,7 +86,29 @@ fn no_whole_number_of_blocks() {
         let text = random.bytes(length);
         let mut ours = text.clone();
         assert_eq!(probe::decrypt(&key, &iv, &mut ours), 0);
-        assert_eq!(probe::encrypt(&key, &iv, &mut ours), 0);
         assert_eq!(ours, text);
+        probe::encrypt(&key, &iv, &random.bytes(length), &mut ours);
+        assert_eq!(ours, text);
+    }
+}
+
+/// What lies past the text stays; memory shorter than the text stays whole.
+#[test]
+fn room_for_the_encrypted() {
+    let mut random = Random(7);
+    for blocks in 1..20 {
+        let (key, iv) = (random.array(), random.array());
+        let (text, before) = (random.bytes(16 * blocks), random.bytes(16 * blocks + 40));
+        let mut expected = text.clone();
+        cbc_encrypt(&Twofish::new(&key), &iv, &mut expected);
+        expected.extend(&before[16 * blocks..]);
+        let mut ours = before.clone();
+        probe::encrypt(&key, &iv, &text, &mut ours);
+        assert!(ours == expected, "{blocks} blocks");
+
+        let short = &before[..16 * blocks - 1];
+        let mut ours = short.to_vec();
+        probe::encrypt(&key, &iv, &text, &mut ours);
+        assert!(ours == short, "{blocks} blocks in too little room");
     }
 }

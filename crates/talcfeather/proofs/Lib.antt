@@ -1,0 +1,4 @@
+pub mod Stored
+mod Values
+mod Keys
+pub mod OneAnswer

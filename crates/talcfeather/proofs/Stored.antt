@@ -1,0 +1,76 @@
+-- Each byte of stored numbers is a byte of one of them, by recursion on the list; so the loop that goes byte by byte stores them all.
+use mathlib.Core.Path.{_≡_, refl, sym, ap, ap₂, _∙_}
+use mathlib.Core.Bool.{Bool, true, false}
+use mathlib.Core.List.{List, [], _∷_, _++_, append-nil}
+use Prim.Native.Nat.{ℕ, zero, suc, _+_, _-_, _*_, _/_, _%_, _^_, _<_, _≤_}
+use native.Mathlib.Omega.{arith}
+use borrow.Author.Tests.{ltb-true, ltb-false}
+use lib.Dec.{ltb}
+use lib.ListN.{length, getD, take, drop, length-append, drop-of-length-le, List·getD-append}
+use lib.Seq.{paste, take-all, take-at, drop-append-add, getD-append-add}
+use Rattle.words.specs.Numbers.{numberLow, bytesLow, byteOf}
+use Rattle.words.specs.Slices.{zeros}
+use Rattle.words.proofs.NumberLaws.{number-bytes, bytes-sized, byte-is}
+use Rattle.talcfeather.specs.Numbers.{stored}
+
+pub stored-length : (l : List ℕ) → length (stored l) ≡ 8 * length l
+unfolding stored
+stored-length [] = refl
+stored-length (x ∷ l) = rw length-append (omega (arith, bytes-sized 8 x .long, stored-length l))
+
+-- byte i of stored numbers is byte i % 8 of number i / 8
+abbrev Right : List ℕ → ℕ → Type 0
+Right l i = getD (stored l) i 0 ≡ byteOf (i % 8) (getD l (i / 8) 0)
+
+pub stored-at : (l : List ℕ) (i : ℕ) → i < 8 * length l → Right l i
+unfolding stored
+stored-at [] i h = absurd (omega arith)
+stored-at (x ∷ l) i h = by (ltb i 8) refl (λ k. stored-at l (i - 8) (omega arith))
+  where
+    eight : length (bytesLow 8 x) ≡ 8
+    eight = bytes-sized 8 x .long
+
+    here : i < 8 → Right (x ∷ l) i
+    here k =
+        let r : i % 8 ≡ i = omega arith in
+        let q : i / 8 ≡ 0 = omega arith in
+        List·getD-append (bytesLow 8 x) (stored l) 0 i (omega (arith, eight)) ∙ byte-is 8 i x k
+        ∙ sym (ap₂ (λ (m n : ℕ). byteOf m (getD (x ∷ l) n 0)) r q)
+
+    there : 8 ≤ i → Right l (i - 8) → Right (x ∷ l) i
+    there k rest =
+        let e : i ≡ length (bytesLow 8 x) + (i - 8) = omega (arith, eight) in
+        let r : (i - 8) % 8 ≡ i % 8 = omega arith in
+        let q : suc ((i - 8) / 8) ≡ i / 8 = omega arith in
+        ap (λ (n : ℕ). getD (bytesLow 8 x ++ stored l) n 0) e ∙ getD-append-add (bytesLow 8 x) (stored l) (i - 8) 0
+        ∙ rest
+        ∙ ap₂ (λ (m n : ℕ). byteOf m (getD (x ∷ l) n 0)) r q
+
+    by : (b : Bool) → ltb i 8 ≡ b → (8 ≤ i → Right l (i - 8)) → Right (x ∷ l) i
+    by true e rest = here (ltb-true i 8 e)
+    by false e rest = there (ltb-false i 8 e) (rest (ltb-false i 8 e))
+
+-- the last byte is reached
+pub all-stored : (m s : List ℕ) (i : ℕ) → length m ≡ length s → length s ≤ i → paste m 0 s i ≡ s
+all-stored m s i e h =
+    let d : drop (0 + i) m ≡ [] = drop-of-length-le m {i = 0 + i} (omega arith) in
+    ap₂ (λ (a b : List ℕ). a ++ b) (take-all i s h) d ∙ append-nil s
+
+-- each number can be read back: 8 bytes at 8 times its index
+pub stored-number : (l : List ℕ) (i : ℕ) → i < length l → numberLow (take 8 (drop (8 * i) (stored l))) ≡ getD l i 0 % 2 ^ 64
+unfolding stored
+stored-number [] i h = absurd (omega arith)
+stored-number (x ∷ l) zero h =
+    ap numberLow (take-at (bytesLow 8 x) (stored l) 8 (bytes-sized 8 x .long)) ∙ number-bytes 8 x
+stored-number (x ∷ l) (suc i) h =
+    let e : 8 * suc i ≡ length (bytesLow 8 x) + 8 * i = omega (arith, bytes-sized 8 x .long) in
+    ap (λ (s : List ℕ). numberLow (take 8 s)) (ap (λ (k : ℕ). drop k (bytesLow 8 x ++ stored l)) e ∙ drop-append-add (bytesLow 8 x) (stored l) (8 * i))
+    ∙ stored-number l i (omega arith)
+
+-- numbers that are zero are bytes that are zero
+pub stored-zeros : (n : ℕ) → stored (zeros n) ≡ zeros (8 * n)
+unfolding stored bytesLow
+stored-zeros zero = refl
+stored-zeros (suc n) =
+    let e : suc (suc (suc (suc (suc (suc (suc (suc (8 * n)))))))) ≡ 8 * suc n = omega arith in
+    ap (λ (s : List ℕ). zeros 8 ++ s) (stored-zeros n) ∙ ap zeros e

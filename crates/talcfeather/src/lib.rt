@@ -1,0 +1,9 @@
+// The library at the C boundary. include/talcfeather.h describes each call; the bytes of its answer are those of specs/.
+mod append;
+mod find;
+mod judge;
+mod numbers;
+mod read;
+mod refusal;
+mod walk;
+mod write;
