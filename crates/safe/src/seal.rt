@@ -18,7 +18,7 @@ pub fn seal(l: &[u8; 32], body: &[u8]) -> [u8; 32]
         };
         let a = f.place + 5;
         let e = a + f.len;
-        st = hmac::take_in(st, &body[a..e]);
+        st = hmac::fed(st, &body[a..e]);
         c = next;
     }
     hmac::finish(st)

@@ -69,6 +69,22 @@ pub fn take_in(st: Mac, s: &[u8]) -> Mac
     }
 }
 
+// The same, in place.
+pub fn absorb(st: &mut Mac, piece: &[u8])
+    ensures { λ _. ⌜ MacTakes (now (st .entry)) (now (piece .entry)) (now (st .exit)) ⌝ }
+{
+    *st = take_in(*st, piece);
+}
+
+// The same for a caller that keeps the state by value: a local, lent for one piece.
+pub fn fed(st: Mac, piece: &[u8]) -> Mac
+    ensures { λ r. ⌜ MacTakes st (now (piece .entry)) r ⌝ }
+{
+    let mut s = st;
+    absorb(&mut s, piece);
+    s
+}
+
 // The code of the message.
 pub fn finish(st: Mac) -> [u8; 32]
     ensures { λ r. ⌜ MacEnds st r ⌝ }

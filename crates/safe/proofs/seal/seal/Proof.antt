@@ -47,8 +47,8 @@ add-e c =
     let i = part-inside (g .l .now) s (at .st) (at .c) (at .inv) f next took in
     omega (arith, c .before .before .before .before .before .before .before .before .before .before .before .before .before .good)
 
-part-take-in-end : tie.Need-part-take-in-end Inv-loop μ-loop
-part-take-in-end c =
+part-fed-end : tie.Need-part-fed-end Inv-loop μ-loop
+part-fed-end c =
     let g = c .before .before .before .before .before .before .before .before .before .before .before .before .before .args in
     let s = g .body .now in
     let at = c .before .before .before .before .before .before .before .before .loop in
@@ -78,7 +78,7 @@ loop-again c =
     let next = c .before .before .before .before .before .f .given .0 .1 .0 in
     let took : walkOf s (at .c) ≡ Took f next = sym (c .before .before .before .before .before .before .before .walk .ensures) ∙ c .before .before .before .before .before .f .given .1 in
     let i = part-inside (g .l .now) s (at .st) (at .c) (at .inv) f next took in
-    sealing-took (g .l .now) s (at .st) (at .c) (at .inv) f next took (c .take-in .ensures)
+    sealing-took (g .l .now) s (at .st) (at .c) (at .inv) f next took (c .fed .ensures)
 
 returns-2 : tie.Need-returns-2 Inv-loop μ-loop
 returns-2 c = let g = c .before .before .before .before .before .before .before .before .args in let at = c .before .before .before .loop in sealing-end (g .l .now) (g .body .now) (at .st) (at .c) (at .inv) (omega arith) (c .finish .ensures)
@@ -99,7 +99,7 @@ seal-spec =
     add-e
     (λ c. search needs)
     (λ c. search needs)
-    part-take-in-end
+    part-fed-end
     (λ c κs. search needs)
     loop-less
     loop-again
