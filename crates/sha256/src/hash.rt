@@ -9,7 +9,7 @@ use super::compression::folds;
 use words::numbers::wide_byte;
 ghost use mathlib.Core.Path.{_≡_};
 ghost use mathlib.Core.List.{List, [], _++_};
-ghost use Prim.Native.Nat.{ℕ, _+_, _*_, _%_, _<_, _≤_};
+ghost use Prim.Native.Nat.{ℕ, _+_, _*_, _%_, _^_, _<_, _≤_};
 ghost use lib.ListN.{length};
 ghost use lib.Seq.{paste};
 ghost use Rattle.words.specs.Numbers.{bytesHigh};
@@ -28,6 +28,13 @@ fn fill(t: &mut [u8; 64], at: usize, s: &[u8])
     }
 }
 
+// The number of bytes with those of s, modulo 2^64.
+fn advanced(n: u64, s: &[u8]) -> u64
+    ensures { λ r. ⌜ r ≡ (n + length (now (s .entry))) % 2 ^ 64 ⌝ }
+{
+    std::num::wrapping_add_u64(n, s.len() as u64)
+}
+
 // Bytes that leave the block open.
 fn short(st: Running, s: &[u8]) -> Running
     requires { ⌜ st .len % 64 + length (now s) < 64 ⌝ }
@@ -37,7 +44,7 @@ fn short(st: Running, s: &[u8]) -> Running
     let mut t = st.tail;
     let k = (st.len % 64) as usize;
     fill(&mut t, k, s);
-    let len = std::num::wrapping_add_u64(st.len, s.len() as u64);
+    let len = advanced(st.len, s);
     Running {
         v: v,
         len: len,
@@ -55,7 +62,7 @@ fn closed(st: Running, s: &[u8]) -> Running
     let k = (st.len % 64) as usize;
     fill(&mut t, k, s);
     let w = compress(v, block(&t));
-    let len = std::num::wrapping_add_u64(st.len, s.len() as u64);
+    let len = advanced(st.len, s);
     let z = [0u8; 64];
     Running {
         v: w,
@@ -74,7 +81,7 @@ fn rest(st: Running, s: &[u8]) -> Running
     let at = s.len() / 64 * 64;
     let mut t = [0u8; 64];
     fill(&mut t, 0, &s[at..]);
-    let len = std::num::wrapping_add_u64(st.len, s.len() as u64);
+    let len = advanced(st.len, s);
     Running {
         v: w,
         len: len,

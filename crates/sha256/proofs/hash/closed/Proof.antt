@@ -12,7 +12,7 @@ returns : tie.Need-returns
 returns c =
     let s = c .before .before .before .before .before .before .before .before .before .before in (
       omega arith,
-      λ m e. finishes m (now (s .args .s)) e (s .pre) (c .wrapping-add-u64 .ensures) (c .before .before .before .before .fill .ensures)
+      λ m e. finishes m (now (s .args .s)) e (s .pre) (c .advanced .ensures) (c .before .before .before .before .fill .ensures)
           (c .before .compress .ensures ∙ ap (compressOf _) (c .before .before .block .ensures)),
     )
 

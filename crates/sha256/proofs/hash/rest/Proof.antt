@@ -15,7 +15,7 @@ returns : tie.Need-returns
 returns c m e =
     let s = c .before .before .before .before .before .before .before in
     let d = now (s .args .s) in
-    follows m d e (s .pre) (c .wrapping-add-u64 .ensures) (c .before .before .before .before .folds .ensures) (take-all (length d - length d / 64 * 64) (left d) (omega (arith, length-left d))) (c .before .fill .ensures refl)
+    follows m d e (s .pre) (c .advanced .ensures) (c .before .before .before .before .folds .ensures) (take-all (length d - length d / 64 * 64) (left d) (omega (arith, length-left d))) (c .before .fill .ensures refl)
 
 pub rest-spec : {M : Type 1} → statement M
 rest-spec =

@@ -10,7 +10,7 @@ use Rattle.sha256.proofs.hash.short.Tie as tie
 returns : tie.Need-returns
 returns c m e =
     let s = c .before .before .before .before .before .before .before in
-    within m (now (s .args .s)) e (s .pre) (c .wrapping-add-u64 .ensures) (c .before .fill .ensures)
+    within m (now (s .args .s)) e (s .pre) (c .advanced .ensures) (c .before .fill .ensures)
 
 pub short-spec : {M : Type 1} → statement M
 short-spec = tie.close (tie.spec (λ c κs. search needs) (λ c κs. search needs) returns)
