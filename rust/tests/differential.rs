@@ -1,4 +1,4 @@
-//! The library against the independent implementation, on some 100,000 cases of its calls:
+//! The library against the independent implementation, on some 130,000 cases of its calls:
 //! well formed, damaged, and on both sides of every limit. Each case compares the number, every
 //! byte of the answer and every byte of lent memory, guards included. Seeds are fixed.
 
