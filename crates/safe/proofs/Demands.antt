@@ -11,7 +11,7 @@ use Rattle.words.specs.Numbers.{Bytes, numberLow, bytesLow}
 use Rattle.words.specs.Slices.{zeros}
 use Rattle.sha256.specs.Sha256.{sha256}
 use Rattle.sha256.specs.Hmac.{hmacOf}
-use Rattle.stretch.specs.Stretch.{startOf, stretchedOf, keyOf}
+use Rattle.stretch.specs.Stretch.{startOf, stepOf, stretchedOf, keyOf}
 use Rattle.stretch.proofs.Counts.{step-key}
 use Rattle.chain.specs.Modes.{ecbE, cbcE, cbcD, encipher, decipher}
 use Rattle.chain.specs.Twofish.{twofishCipher}
@@ -250,6 +250,11 @@ module _ (file passphrase : List ℕ) (ceiling room : ℕ) where
   unfolding split
   counts-compressions bytes past =
       Ends.compressions-held v3 file passphrase ceiling room (late past) ∙ compressed v3 v3-laws file passphrase ceiling room bytes (late past)
+
+  -- It is the count that the last step, the check's, hands on.
+  pub counts-handed : (OneToSeven (t .number) → ⊥) → t .compressions ≡ stepOf (stretchedOf (iterIn file) (startOf passphrase (saltIn file))) .count
+  unfolding v3 stretchedV3 split
+  counts-handed past = Ends.compressions-held v3 file passphrase ceiling room (late past)
 
   -- The second is 0 for refusal 8,
   pub counts-eight : t .number ≡ 8 → t .blocks ≡ 0
