@@ -103,10 +103,17 @@ unfolding findOf
 find-is s a b w = rw (decides s w, header-is s w, records-are s w)
 
 -- refused
-pub judge-not : (s : List ℕ) → Bytes s → (WellFormed s → ⊥) → judgedOf s ≡ judged.NotWellFormed
-unfolding judgedOf
-judge-not s b n = by (wellFormed s) refl
+not-formed : (s : List ℕ) → Bytes s → (WellFormed s → ⊥) → wellFormed s ≡ false
+not-formed s b n = by (wellFormed s) refl
   where
-    by : (t : Bool) → wellFormed s ≡ t → cond t (judged.Counts (headersOf s) (recordsOf s)) judged.NotWellFormed ≡ judged.NotWellFormed
+    by : (t : Bool) → wellFormed s ≡ t → t ≡ false
     by true e = absurd (n (well-formed s b .0 e))
     by false e = refl
+
+pub judge-not : (s : List ℕ) → Bytes s → (WellFormed s → ⊥) → judgedOf s ≡ judged.NotWellFormed
+unfolding judgedOf
+judge-not s b n = rw (not-formed s b n)
+
+pub find-not : (s : List ℕ) (u v : ℕ) → Bytes s → (WellFormed s → ⊥) → findOf s u v ≡ record { sought = sought.NotWellFormed }
+unfolding findOf
+find-not s u v b n = rw (not-formed s b n)

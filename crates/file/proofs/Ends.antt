@@ -4,7 +4,7 @@ use Prim.Native.Nat.{ℕ, _-_, _/_, _≤_}
 use mathlib.Core.Path.{_≡_, refl, sym, ap, _∙_, subst}
 use mathlib.Core.Logic.{_↔_}
 use mathlib.Core.Bool.{Bool, true, false, _&&_, _||_, false≢true, true≢false}
-use mathlib.Core.List.{List, [], _∷_}
+use mathlib.Core.List.{List, [], _∷_, map}
 use native.Mathlib.Omega.{arith}
 use native.Mathlib.Nat.{sub-zero}
 use lib.Dec.{eqb, ltb}
@@ -14,7 +14,7 @@ use Rattle.words.specs.Numbers.{numberLow}
 use Rattle.words.specs.Slices.{zeros}
 use Rattle.chain.specs.Opening.{Opening}
 use Rattle.file.specs.Layout.{Parts, split, differ}
-use Rattle.file.specs.Refusals.{Test, First, here, later, rising}
+use Rattle.file.specs.Refusals.{Test, First, here, later}
 use Rattle.file.specs.Edition.{Edition, Stretched}
 use Rattle.file.specs.Reading.{Report, refused, accepted, workspaceOf, earlyTests, keyK, keyL, bodyOf, checked, readingOf}
 use Rattle.file.specs.Writing.{Writing, unwritten, earlyWriteTests, writeTests, written, writingOf}
@@ -81,10 +81,10 @@ module _ (E : Edition) (file pass : List ℕ) (ceiling room : ℕ) where
           let b = first-between 1 7 k {ts = earlyTests E p n file pass ceiling room} refl f in
           stopped k (b .0) (b .1) f e
 
-  -- by rising number
-  pub early-rises : rising 1 (earlyTests E p n file pass ceiling room) ≡ true
+  -- the numbers of the early tests, in their order
+  pub early-numbers : map (λ (t : Test). t .number) (earlyTests E p n file pass ceiling room) ≡ 1 ∷ 2 ∷ 3 ∷ 4 ∷ 5 ∷ 6 ∷ 7 ∷ []
   unfolding earlyTests
-  early-rises = refl
+  early-numbers = refl
 
   -- a number of 1 to 7 is that of the first test that fails
   pub first-fails : (k : ℕ) → 1 ≤ k → k ≤ 7 → (r .number ≡ k) ↔ First k (earlyTests E p n file pass ceiling room)
@@ -227,9 +227,9 @@ module _ (E : Edition) (pass salt : List ℕ) (iter : ℕ) (K L iv body : List �
   abbrev w : Writing
   w = writingOf E pass salt iter K L iv body room
 
-  pub write-rises : rising 1 tests ≡ true
+  pub write-numbers : map (λ (t : Test). t .number) tests ≡ 1 ∷ 2 ∷ 3 ∷ 5 ∷ 9 ∷ 10 ∷ []
   unfolding writeTests earlyWriteTests
-  write-rises = refl
+  write-numbers = refl
 
   write-first : (k : ℕ) → First k tests → w ≡ unwritten k room
   unfolding writingOf

@@ -30,8 +30,3 @@ pub data First (k : ℕ) : List Test → Type 0 where
 abbrev pub between : ℕ → ℕ → List Test → Bool
 between a b [] = true
 between a b (t ∷ ts) = leb a (t .number) && (leb (t .number) b && between a b ts)
-
--- the numbers of a table rise from a on (two tests may share a number)
-abbrev pub rising : ℕ → List Test → Bool
-rising a [] = true
-rising a (t ∷ ts) = leb a (t .number) && rising (t .number) ts

@@ -58,6 +58,9 @@ numberOf r = outcomeNumber (r .outcome)
 abbrev pub OneToSeven : ℕ → Type 0
 OneToSeven n = (1 ≤ n) × (n ≤ 7)
 
+abbrev pub OneToFour : ℕ → Type 0
+OneToFour n = (1 ≤ n) × (n ≤ 4)
+
 -- `read` was given a file, a passphrase, a ceiling and a workspace, answered r and left the workspace as `after`: its contract says no more than this.
 -- A slice holds bytes.
 pub record Reads (file passphrase : List ℕ) (ceiling : ℕ) (before after : List ℕ) (r : Reading) : Type 0 where

@@ -3,10 +3,9 @@
 use Prim.Native.Nat.{ℕ, _+_, _-_, _/_, _<_, _≤_}
 use mathlib.Core.Path.{_≡_, refl, sym, ap, _∙_, subst}
 use mathlib.Core.Logic.{_↔_}
-use mathlib.Core.Bool.{true}
 use mathlib.Core.List.{List, [], _∷_, _++_, map}
 use native.Mathlib.Omega.{arith}
-use lib.ListN.{length, take}
+use lib.ListN.{length, take, drop}
 use Rattle.words.specs.Numbers.{Bytes, numberLow, bytesLow}
 use Rattle.words.specs.Slices.{zeros}
 use Rattle.sha256.specs.Sha256.{sha256}
@@ -15,23 +14,12 @@ use Rattle.stretch.specs.Stretch.{startOf, stepOf, stretchedOf, keyOf}
 use Rattle.stretch.proofs.Counts.{step-key}
 use Rattle.chain.specs.Modes.{ecbE, cbcE, cbcD, encipher, decipher}
 use Rattle.chain.specs.Twofish.{twofishCipher}
-use Rattle.fields.specs.Stored.{Stored}
-use Rattle.fields.specs.Walk.{walkOf}
-use Rattle.fields.specs.Append.{appendOf, bufferAfter}
-use Rattle.fields.specs.declared.Cursor.{Cursor}
-use Rattle.fields.specs.declared.Walked.{Walked}
-use Rattle.fields.specs.declared.store.Appended.{Appended}
-use Rattle.fields.proofs.Numbers.{walk-one, append-one}
 use Rattle.body.specs.Sections.{covered}
 use Rattle.body.specs.WellFormed.{WellFormed}
-use Rattle.body.specs.Decision.{coveredOf, judgedOf}
-use Rattle.body.specs.Find.{findOf}
-use Rattle.body.specs.declared.Judged.{Judged}
-use Rattle.body.specs.declared.Found.{Found}
+use Rattle.body.specs.Decision.{coveredOf}
 use Rattle.body.proofs.Decided.{counts-are}
-use Rattle.body.proofs.Answers.{judge-one, find-one}
 use Rattle.file.specs.Layout.{split, join, glue, listed, tag, marker}
-use Rattle.file.specs.Refusals.{First, rising}
+use Rattle.file.specs.Refusals.{Test, First}
 use Rattle.file.specs.Description.{IsSafe, wrapped, cbc, partsOf, fileOf}
 use Rattle.file.specs.Reading.{Report, refused, workspaceOf, earlyTests, readingOf}
 use Rattle.file.specs.Writing.{Writing, writeTests, writingOf}
@@ -44,16 +32,16 @@ use Rattle.file.proofs.Ends as Ends
 use Rattle.file.proofs.Decrypted.{whole-body}
 use Rattle.file.proofs.Prefix.{no-prefix}
 use Rattle.safe.specs.V3.{v3, stretchedV3}
-use Rattle.safe.specs.Answers.{headersIn, recordsIn, writtenNumber}
+use Rattle.safe.specs.Answers.{headersIn, recordsIn, writtenNumber, reported}
 use Rattle.safe.specs.Steps.{Reports}
 use Rattle.safe.specs.declared.Reading.{Reading}
 use Rattle.safe.specs.declared.Written.{Written}
 use Rattle.safe.proofs.V3Laws.{v3-laws}
-use Rattle.safe.proofs.Calls.{saltIn, iterIn, ivIn, encryptedIn, blocksIn, keyIn, lastState, Matching, numberOf, OneToSeven, Reads, Accepts, Writes}
+use Rattle.safe.proofs.Calls.{saltIn, iterIn, ivIn, encryptedIn, blocksIn, keyIn, lastState, Matching, numberOf, OneToFour, OneToSeven, Reads, Accepts, Writes}
 use Rattle.safe.proofs.Contracts.{one-report, number-is, k-is, l-is, headers-are, records-are, written-told}
 use Rattle.safe.proofs.Acceptance.{is-read, accepts-exactly}
 use Rattle.safe.proofs.Stretching.{matching}
-use Rattle.safe.proofs.Instances.{thirteen, instances}
+use Rattle.safe.proofs.Instances.{thirteen, instances, below-floor}
 
 -- none of 1 to 7
 late : {n : ℕ} → (OneToSeven n → ⊥) → Late n
@@ -235,83 +223,114 @@ module _ {file file′ passphrase passphrase′ before before′ after after′ 
       (rw (number-is (c .contract)) at past) (rw (workspaces, ← (number-is (c′ .contract))) past′) m m′
       ∙ ap (readingOf v3 file′ passphrase′ ceiling′) workspaces) workspaces
 
-module _ (file passphrase : List ℕ) (ceiling room : ℕ) where
+module _ {file passphrase before after : List ℕ} {ceiling : ℕ} {r : Reading} (c : Reads file passphrase ceiling before after r) where
+  abbrev room : ℕ
+  room = length before
+
   abbrev t : Report
   t = readingOf v3 file passphrase ceiling room
+
+  abbrev early-tests : List Test
+  early-tests = earlyTests v3 (split file) (blocksIn file) file passphrase ceiling room
+
+  -- what holds of the report's number and counts holds of the answer's
+  told : (P : ℕ → ℕ → ℕ → Type 0) → P (t .number) (t .compressions) (t .blocks) → P (numberOf r) (r .compressions) (r .blocks)
+  unfolding reported
+  told P = subst (λ (u : Report). P (u .number) (u .compressions) (u .blocks)) (sym (c .contract .answer))
 
   -- ==== COUNTS. Every reading also reports two counts: SHA-256 compressions spent on stretching and its check, and Twofish blocks decrypted.
 
   -- They are 0 for refusals 1 to 7.
-  pub counts-stopped : OneToSeven (t .number) → (t .compressions ≡ 0) × (t .blocks ≡ 0)
-  counts-stopped h = Ends.early-counts v3 file passphrase ceiling room (h .0) (h .1)
+  pub counts-stopped : OneToSeven (numberOf r) → (r .compressions ≡ 0) × (r .blocks ≡ 0)
+  counts-stopped =
+      told (λ n a b. OneToSeven n → (a ≡ 0) × (b ≡ 0)) (λ h. Ends.early-counts v3 file passphrase ceiling room (h .0) (h .1))
 
   -- The first is otherwise c + ITER + 1, with c = (passphrase length + 40) / 64 rounded down, plus 1.
-  pub counts-compressions : Bytes file → (OneToSeven (t .number) → ⊥) → t .compressions ≡ (length passphrase + 40) / 64 + 1 + iterIn file + 1
+  pub counts-compressions : (OneToSeven (numberOf r) → ⊥) → r .compressions ≡ (length passphrase + 40) / 64 + 1 + iterIn file + 1
   unfolding split
-  counts-compressions bytes past =
-      Ends.compressions-held v3 file passphrase ceiling room (late past) ∙ compressed v3 v3-laws file passphrase ceiling room bytes (late past)
+  counts-compressions =
+      told (λ n a b. (OneToSeven n → ⊥) → a ≡ (length passphrase + 40) / 64 + 1 + iterIn file + 1)
+      (λ past. Ends.compressions-held v3 file passphrase ceiling room (late past) ∙ compressed v3 v3-laws file passphrase ceiling room (c .bytes) (late past))
 
   -- It is the count that the last step, the check's, hands on.
-  pub counts-handed : (OneToSeven (t .number) → ⊥) → t .compressions ≡ stepOf (stretchedOf (iterIn file) (startOf passphrase (saltIn file))) .count
+  pub counts-handed : (OneToSeven (numberOf r) → ⊥) → r .compressions ≡ stepOf (stretchedOf (iterIn file) (startOf passphrase (saltIn file))) .count
   unfolding v3 stretchedV3 split
-  counts-handed past = Ends.compressions-held v3 file passphrase ceiling room (late past)
+  counts-handed =
+      told (λ n a b. (OneToSeven n → ⊥) → a ≡ stepOf (stretchedOf (iterIn file) (startOf passphrase (saltIn file))) .count)
+      (λ past. Ends.compressions-held v3 file passphrase ceiling room (late past))
 
   -- The second is 0 for refusal 8,
-  pub counts-eight : t .number ≡ 8 → t .blocks ≡ 0
-  counts-eight = Ends.eight-blocks v3 file passphrase ceiling room
+  pub counts-eight : numberOf r ≡ 8 → r .blocks ≡ 0
+  counts-eight = told (λ n a b. n ≡ 8 → b ≡ 0) (Ends.eight-blocks v3 file passphrase ceiling room)
 
-  module _ (past : OneToSeven (t .number) → ⊥) (checked : t .number ≡ 8 → ⊥) where
-    -- else 4 + n.
-    pub counts-blocks : t .blocks ≡ 4 + blocksIn file
-    counts-blocks =
-        Ends.blocks-held v3 file passphrase ceiling room (late past) checked
-        ∙ count-opened v3 v3-laws (split file) (v3 .stretched passphrase (split file .salt) (numberLow (split file .iter))) (blocksIn file)
+  -- else 4 + n.
+  pub counts-blocks : (OneToSeven (numberOf r) → ⊥) → (numberOf r ≡ 8 → ⊥) → r .blocks ≡ 4 + blocksIn file
+  counts-blocks =
+      told (λ n a b. (OneToSeven n → ⊥) → (n ≡ 8 → ⊥) → b ≡ 4 + blocksIn file)
+      (λ past checked. Ends.blocks-held v3 file passphrase ceiling room (late past) checked
+      ∙ count-opened v3 v3-laws (split file) (v3 .stretched passphrase (split file .salt) (numberLow (split file .iter))) (blocksIn file))
 
-    -- Unless the reading ends in 1 to 8, the state that the count belongs to, before any zeroing, is the whole body decrypted, of which nothing is left.
-    pub counts-state : Bytes file → let o = lastState passphrase file in
-        (t .blocks ≡ o .count)
-        × (o .done ≡ decipher (cbcD twofishCipher (keyIn passphrase file)) (blocksIn file) (ivIn file) (encryptedIn file))
-        × (length (o .done) ≡ length file - 200)
-        × (o .rest ≡ [])
-    unfolding v3 split
-    counts-state bytes =
-        let w = whole-body v3 v3-laws file passphrase ceiling room bytes (early v3 file passphrase ceiling room (late past)) in
-        (Ends.blocks-held v3 file passphrase ceiling room (late past) checked, w .0, w .1, w .2)
+  -- Unless the reading ends in 1 to 8, the state that the count belongs to, before any zeroing, is the whole body decrypted, of which nothing is left.
+  pub counts-state : (OneToSeven (numberOf r) → ⊥) → (numberOf r ≡ 8 → ⊥) → let o = lastState passphrase file in
+      (r .blocks ≡ o .count)
+      × (o .done ≡ decipher (cbcD twofishCipher (keyIn passphrase file)) (blocksIn file) (ivIn file) (encryptedIn file))
+      × (length (o .done) ≡ length file - 200)
+      × (o .rest ≡ [])
+  unfolding v3 split
+  counts-state =
+      let o = lastState passphrase file in
+      told (λ n a b. (OneToSeven n → ⊥) → (n ≡ 8 → ⊥)
+      → (b ≡ o .count)
+      × (o .done ≡ decipher (cbcD twofishCipher (keyIn passphrase file)) (blocksIn file) (ivIn file) (encryptedIn file))
+      × (length (o .done) ≡ length file - 200)
+      × (o .rest ≡ []))
+      (λ past checked.
+          let w = whole-body v3 v3-laws file passphrase ceiling room (c .bytes) (early v3 file passphrase ceiling room (late past)) in
+          (Ends.blocks-held v3 file passphrase ceiling room (late past) checked, w .0, w .1, w .2))
 
   -- ==== CEILINGS. Ceiling 2,047: no file passes; ceiling equal to ITER: passes.
-  pub ceiling-below : ceiling < 2048 → t .number ≡ 0 → ⊥
+  pub ceiling-below : ceiling < 2048 → numberOf r ≡ 0 → ⊥
   unfolding v3
-  ceiling-below h e = absurd (let f = Ends.floor-under v3 file passphrase ceiling room e in omega arith)
+  ceiling-below h =
+      told (λ n a b. n ≡ 0 → ⊥) (λ e. absurd (let f = Ends.floor-under v3 file passphrase ceiling room e in omega arith))
 
-  pub ceiling-reached : iterIn file ≤ ceiling → t .number ≡ 6 → ⊥
+  pub ceiling-reached : iterIn file ≤ ceiling → numberOf r ≡ 6 → ⊥
   unfolding split
-  ceiling-reached h = Ends.under-ceiling v3 file passphrase ceiling room h
+  ceiling-reached h = told (λ n a b. n ≡ 6 → ⊥) (Ends.under-ceiling v3 file passphrase ceiling room h)
 
-  -- ==== ORDER. Reading and writing by rising number.
-  pub reading-rises : rising 1 (earlyTests v3 (split file) (blocksIn file) file passphrase ceiling room) ≡ true
-  reading-rises = Ends.early-rises v3 file passphrase ceiling room
+  -- ==== ORDER. Reading and writing by rising number, as far as each uses it.
+  pub reading-numbers : map (λ (x : Test). x .number) early-tests ≡ 1 ∷ 2 ∷ 3 ∷ 4 ∷ 5 ∷ 6 ∷ 7 ∷ []
+  reading-numbers = Ends.early-numbers v3 file passphrase ceiling room
 
   -- A number of 1 to 7 is that of the first test that fails;
-  pub reading-first : (k : ℕ) → 1 ≤ k → k ≤ 7 → (t .number ≡ k) ↔ First k (earlyTests v3 (split file) (blocksIn file) file passphrase ceiling room)
-  reading-first = Ends.first-fails v3 file passphrase ceiling room
+  pub reading-first : (k : ℕ) → 1 ≤ k → k ≤ 7 → (numberOf r ≡ k) ↔ First k early-tests
+  reading-first k from to = told (λ n a b. (n ≡ k) ↔ First k early-tests) (Ends.first-fails v3 file passphrase ceiling room k from to)
 
   -- past these, 8 is given exactly when SHA-256 of P' differs;
-  pub reading-eight : (OneToSeven (t .number) → ⊥) → (t .number ≡ 8) ↔ (Matching passphrase file → ⊥)
-  reading-eight past =
-      let e = Ends.eight-exactly v3 file passphrase ceiling room (late past) in
-      (λ h m. e .0 h (matching passphrase file .0 m), λ h. e .1 λ m. h (matching passphrase file .1 m))
+  pub reading-eight : (OneToSeven (numberOf r) → ⊥) → (numberOf r ≡ 8) ↔ (Matching passphrase file → ⊥)
+  reading-eight =
+      told (λ n a b. (OneToSeven n → ⊥) → (n ≡ 8) ↔ (Matching passphrase file → ⊥))
+      (λ past.
+          let e = Ends.eight-exactly v3 file passphrase ceiling room (late past) in
+          (λ h m. e .0 h (matching passphrase file .0 m), λ h. e .1 λ m. h (matching passphrase file .1 m)))
 
   -- and past that, whatever is not accepted is 9.
-  pub reading-nine : Bytes file → (OneToSeven (t .number) → ⊥) → Matching passphrase file → (t .number ≡ 0 → ⊥) → t .number ≡ 9
+  pub reading-nine : (OneToSeven (numberOf r) → ⊥) → Matching passphrase file → (numberOf r ≡ 0 → ⊥) → numberOf r ≡ 9
   unfolding refused
-  reading-nine bytes past m n = ap (λ (u : Report). u .number) (matched v3 v3-laws file passphrase ceiling room bytes (late past) (matching passphrase file .0 m) n)
+  reading-nine =
+      told (λ n a b. (OneToSeven n → ⊥) → Matching passphrase file → (n ≡ 0 → ⊥) → n ≡ 9)
+      (λ past m n. ap (λ (u : Report). u .number)
+      (matched v3 v3-laws file passphrase ceiling room (c .bytes) (late past) (matching passphrase file .0 m) n))
 
-module _ (passphrase salt : List ℕ) (iter : ℕ) (K L iv body : List ℕ) (room : ℕ) where
-  pub writing-rises : rising 1 (writeTests v3 passphrase iter K iv body room) ≡ true
-  writing-rises = Ends.write-rises v3 passphrase salt iter K L iv body room
+module _ {passphrase salt : List ℕ} {iter : ℕ} {K L iv body before after : List ℕ} {r : Written} (c : Writes passphrase salt iter K L iv body before after r) where
+  abbrev write-tests : List Test
+  write-tests = writeTests v3 passphrase iter K iv body (length before)
 
-  pub writing-first : (k : ℕ) → 1 ≤ k → (writingOf v3 passphrase salt iter K L iv body room .number ≡ k) ↔ First k (writeTests v3 passphrase iter K iv body room)
-  writing-first = Ends.write-fails v3 passphrase salt iter K L iv body room
+  pub writing-numbers : map (λ (x : Test). x .number) write-tests ≡ 1 ∷ 2 ∷ 3 ∷ 5 ∷ 9 ∷ 10 ∷ []
+  writing-numbers = Ends.write-numbers v3 passphrase salt iter K L iv body (length before)
+
+  pub writing-first : (k : ℕ) → 1 ≤ k → (writtenNumber r ≡ k) ↔ First k write-tests
+  writing-first k from = rw (c .number) (Ends.write-fails v3 passphrase salt iter K L iv body (length before) k from)
 
 -- ==== NO SECOND ANSWER. Each public call's contract determines its answer and its lent memory afterwards for every input: no second answer satisfies it.
 pub one-read : (file passphrase : List ℕ) (ceiling : ℕ) (before after after′ : List ℕ) (r r′ : Reading) → let t = readingOf v3 file passphrase ceiling (length before) in
@@ -323,22 +342,15 @@ pub one-write : (passphrase salt : List ℕ) (iter : ℕ) (K L iv body before af
     (writtenNumber r ≡ w .number) × (after ≡ w .output) → (writtenNumber r′ ≡ w .number) × (after′ ≡ w .output) → (r ≡ r′) × (after ≡ after′)
 one-write passphrase salt iter K L iv body before after after′ r r′ c c′ = (written-told r r′ (c .0 ∙ sym (c′ .0)), c .1 ∙ sym (c′ .1))
 
-pub one-walk : (body : List ℕ) (c : Cursor) (r r′ : Walked) → r ≡ walkOf body c → r′ ≡ walkOf body c → r ≡ r′
-one-walk = walk-one
-
-pub one-append : (buffer : List ℕ) (place : ℕ) (f : Stored) (r r′ : Appended) (after after′ : List ℕ)
-    → (r ≡ appendOf buffer place f) × (after ≡ bufferAfter r buffer place f) → (r′ ≡ appendOf buffer place f) × (after′ ≡ bufferAfter r′ buffer place f)
-    → (r ≡ r′) × (after ≡ after′)
-one-append = append-one
-
--- (well-formed)
-pub one-judge : (body : List ℕ) (r r′ : Judged) → r ≡ judgedOf body → r′ ≡ judgedOf body → r ≡ r′
-one-judge = judge-one
-
-pub one-find : (body : List ℕ) (a b : ℕ) (r r′ : Found) → r ≡ findOf body a b → r′ ≡ findOf body a b → r ≡ r′
-one-find = find-one
+-- Of walk and append: `walk-one` and `append-one` (fields, Numbers.antt); of well-formed and find: `judge-one` and `find-one` (body, Answers.antt).
 
 -- ==== INSTANCES. The thirteen instances in the lines marked * are proved together as a single statement over their list.
 pub thirteen-instances : (a b c salt : List ℕ) → length a ≡ 23 → length b ≡ 24 → length c ≡ 1024 → length salt ≡ 32
     → map (λ i. i .0) (thirteen a b c salt) ≡ map (λ i. i .1) (thirteen a b c salt)
 thirteen-instances = instances
+
+-- (refusal 5): so it is for ITER 2,047 wherever 1 to 4 do not come first.
+pub floor-instance : {file passphrase before after : List ℕ} {ceiling : ℕ} {r : Reading} → Reads file passphrase ceiling before after r
+    → take 4 (drop 36 file) ≡ 0xFF ∷ 0x07 ∷ 0x00 ∷ 0x00 ∷ [] → (OneToFour (numberOf r) → ⊥) → numberOf r ≡ 5
+floor-instance {file} {passphrase} {before} {ceiling = ceiling} c e past =
+    number-is (c .contract) ∙ below-floor file passphrase ceiling (length before) e (rw (number-is (c .contract)) at past)
