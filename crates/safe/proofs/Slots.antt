@@ -4,7 +4,7 @@ use mathlib.Core.Path.{_≡_, refl, sym, ap, ap₂, _∙_}
 use mathlib.Core.List.{List, [], _∷_, _++_, append-assoc, append-nil}
 use native.Mathlib.Nat.{add-zero}
 use native.Mathlib.Omega.{arith}
-use lib.ListN.{length, getD, take, drop, replicate, length-append, length-take, length-drop, length-replicate, drop-of-length-le, take-append-drop}
+use lib.ListN.{length, getD, take, drop, replicate, length-append, length-take, length-drop, length-replicate, drop-of-length-le, take-append-drop, replicate-append-replicate}
 use lib.Seq.{take-all, take-at, drop-at, drop-append-add, drop-cons, drop-drop, length-take-le}
 use Rattle.words.specs.Slices.{zeros, copied}
 use Rattle.words.proofs.SliceLaws.{copied-over}
@@ -32,3 +32,14 @@ lay-is at out part new h e =
     ap₂ (λ (x y : List ℕ). take at out ++ (x ++ y))
     (e ∙ ap (λ (n : ℕ). copied (take n (drop at out)) part) k ∙ copied-over (take (length part) (drop at out)) part l)
     (ap (λ (n : ℕ). drop n (drop at out)) k ∙ drop-drop (length part) at out)
+
+-- the front of a memory zeroed, with zeros behind it
+pub blanked : (w ws z : List ℕ) (n : ℕ) → length w ≡ n → n ≤ length ws → ws ≡ zeros (length ws) → z ≡ zeros (length (take n (w ++ drop n ws)))
+    → z ++ drop n (w ++ drop n ws) ≡ zeros (length ws)
+blanked w ws z n lw h zs e =
+    let whole : n + (length ws - n) ≡ length ws = omega arith in
+    ap₂ (λ (x y : List ℕ). x ++ y)
+    (e ∙ ap (λ (x : List ℕ). zeros (length x)) (take-at w (drop n ws) n lw) ∙ ap zeros lw)
+    (drop-at w (drop n ws) n lw ∙ ap (drop n) zs ∙ drop-same 0 n (length ws) h)
+    ∙ replicate-append-replicate n (length ws - n) 0
+    ∙ ap zeros whole

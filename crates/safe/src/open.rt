@@ -77,7 +77,7 @@ fn judge(file: &[u8], key: &[u8; 32], compressions: u64, workspace: &mut [u8]) -
     let e = file.len() - 32;
     let j = judged(&workspace[..n], &l, &file[e..]);
     let Judged::Counts(headers, records) = j else {
-        zero(workspace);
+        zero(&mut workspace[..n]);
         return refused(Refusal::Body, compressions, blocks);
     };
     Reading {

@@ -1,15 +1,14 @@
 -- `safe::open::judge` meets its contract: the keys and the text that it holds are those of the definition, and so is the verdict.
 use Rattle.file.specs.Edition.{Stretched}
-use Rattle.words.specs.Slices.{zeros}
-use lib.ListN.{length, take, drop, length-append, length-drop}
+use lib.ListN.{length, take, drop, length-drop}
 use mathlib.Core.Path.{_≡_, refl, sym, ap, _∙_}
 use mathlib.Core.List.{List, _++_}
 use Prim.Native.Nat.{ℕ, _-_, _/_}
 use native.Mathlib.Omega.{arith}
 use denote.Ref.{now}
-use lib.ListN.{length, take, drop}
 use lib.Seq.{length-take-le, take-at, take-all}
 use Rattle.file.specs.Layout.{split}
+use Rattle.safe.proofs.Slots.{blanked}
 use Rattle.safe.proofs.Verdicts.{judged-no, judged-yes, keys-count}
 use borrow.Author.Needs.{needs}
 use Rattle.safe.proofs.open.judge.Statement.{statement}
@@ -36,6 +35,17 @@ slice-aggregate-judged c =
     let lw : length w ≡ n = g ∙ length-take-le n ws (t .pre .1) in
     sym (ap length (take-at w (drop n ws) n lw) ∙ lw)
 
+slice-aggregate-zero : tie.Need-slice-aggregate-zero
+slice-aggregate-zero c =
+    let t = c .before .before .before .before .before .before .before .before .before .before .before .before .before .before .before .before .before .before in
+    let file = now (t .args .file) in
+    let ws = now (t .args .workspace) in
+    let w = c .before .before .before .before .before .before .before .before .before .decrypt .last .1 .1 .1 .0 in
+    let n = length file - 200 in
+    let g : length w ≡ length (take n ws) = c .before .before .before .before .before .before .before .before .workspace .given .0 in
+    let lw : length w ≡ n = g ∙ length-take-le n ws (t .pre .1) in
+    sym (ap length (take-at w (drop n ws) n lw) ∙ lw)
+
 returns : tie.Need-returns
 unfolding split
 returns c =
@@ -47,10 +57,9 @@ returns c =
     let g : length w ≡ length (take n ws) = c .before .before .before .before .before .before .before .before .before .before .before .before .workspace .given .0 in
     let lw : length w ≡ n = g ∙ length-take-le n ws (t .pre .1) in
     let d = length-drop (length file - 32) file in
-    let l : length (w ++ drop n ws) ≡ length ws = simp (length-append, length-drop) (omega (arith, t .pre .1)) in
     λ s e k. judged-no file (now (t .args .key)) (n / 16) (t .args .compressions) s e (c .before .before .before .before .before .before .before .before .before .before .before .before .before .before .before .before .before .before .unwrap .result) (c .before .before .before .before .before .before .before .before .before .before .before .before .before .before .before .before .before .before .unwrap .ensures) w (c .before .before .before .before .before .before .before .before .before .before .before .before .before .decrypt .result) (c .before .before .before .before .before .before .before .before .before .before .before .before .before .decrypt .ensures)
     _ _ (take-all (length file - (length file - 32)) (drop (length file - 32) file) (omega arith)) (take-at w (drop n ws) n lw) (c .before .before .before .before .before .before .before .judged .ensures) (c .before .before .before .before .before .enum-told .given .1)
-    (c .refused .ensures) (c .before .before .before .zero .ensures ∙ ap zeros l)
+    (c .refused .ensures) (blanked w ws _ n lw (t .pre .1) (t .pre .3) (c .before .before .before .zero .ensures))
 
 returns-2 : tie.Need-returns-2
 unfolding split
@@ -88,6 +97,8 @@ judge-spec =
     (λ c κs. search needs)
     (λ c. search needs)
     (λ c. search needs)
+    (λ c. search needs)
+    slice-aggregate-zero
     (λ c κs. search needs)
     (λ c κs. search needs)
     (λ c. search needs)
