@@ -4,3 +4,4 @@ mod Parts
 mod Appends
 pub mod Back
 pub mod Numbers
+pub mod Texts

@@ -9,7 +9,7 @@ use lib.ListN.{length}
 use borrow.Author.Tests.{eqb-true, ltb-false, not-false}
 use Rattle.text.proofs.Tests.{tests}
 use Rattle.fields.specs.Stored.{blocksOf, roomOf, fillOf}
-use Rattle.fields.specs.Walk.{walkOf, lenAt, kindAt, dataAt, endWithData, misplaced, broken, fieldAt, after}
+use Rattle.fields.specs.Walk.{walkOf, lenAt, kindAt, dataAt, endWithData, misplaced, broken, fieldAt, passed, after}
 use Rattle.fields.specs.Value.{valueOf}
 use Rattle.fields.specs.declared.value.Value.{Value}
 use Rattle.fields.specs.declared.Cursor.{Cursor}
@@ -42,11 +42,11 @@ module _ (s : List ℕ) (c : Cursor) (a : c .place % 16 ≡ 0) (b : c .place ≤
     took h = search (tests, h)
 
 -- a field and a cursor that are made of what stands at the place
-pub built : (s : List ℕ) (c : Cursor) (n m : ℕ) (v : Value) (r : Bool) → walkOf s c ≡ Took (fieldAt s c) (after s c)
+pub built : (s : List ℕ) (c : Cursor) (n m : ℕ) (v : Value) (d : Cursor) → walkOf s c ≡ Took (fieldAt s c) (after s c)
     → n ≡ lenAt s (c .place) → m ≡ roomOf (lenAt s (c .place)) → v ≡ valueOf (c .«in_record») (kindAt s (c .place)) (dataAt s (c .place))
-    → r ≡ c .«in_record» || eqb (kindAt s (c .place)) 0xff
-    → Took (record { kind = kindAt s (c .place); place = c .place; len = n; value = v }) (record { place = c .place + m; «in_record» = r }) ≡ walkOf s c
-built s c n m v r w hn hm hv hr = rw (w, hn, hm, hv, hr)
+    → d ≡ passed (c .place + m) (c .«in_record») (kindAt s (c .place))
+    → Took (record { kind = kindAt s (c .place); place = c .place; len = n; value = v }) d ≡ walkOf s c
+built s c n m v d w hn hm hv hd = rw (w, hd, hn, hm, hv)
 
 pub at-end : (s : List ℕ) (c : Cursor) → c .place % 16 ≡ 0 → c .place ≡ length s → walkOf s c ≡ Finished
 unfolding walkOf

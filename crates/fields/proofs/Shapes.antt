@@ -1,8 +1,10 @@
 -- The tests of the code, one after the other, say the same of each type as the lists of the definition: one computed test over the 256 types.
 use Prim.Native.Nat.{ℕ, zero, suc, _<_}
-use mathlib.Core.Path.{_≡_, refl}
+use mathlib.Core.Path.{_≡_, refl, _∙_}
 use mathlib.Core.Bool.{cond}
+use native.Mathlib.Omega.{arith}
 use lib.Dec.{T, eqb, ltb, eqb→eq}
+use borrow.Author.Tests.{lt-ltb}
 use Rattle.fields.specs.declared.value.Shape.{Shape}
 use Rattle.fields.specs.declared.value.Shape.the-variants as Shape
 use Rattle.fields.specs.Value.{headerShape, recordShape}
@@ -18,14 +20,17 @@ headerTests k =
     (cond (ltb k 0x12) Shape.Text
     (cond (eqb k 0x13) Shape.Time Shape.Opaque))))))
 
-abbrev pub recordTests : ℕ → Shape
-recordTests k =
+-- of the types below 0d, and of all
+abbrev pub lowTests : ℕ → Shape
+lowTests k =
     cond (eqb k 0x00) Shape.Opaque
     (cond (eqb k 0x01) Shape.Uuid
     (cond (ltb k 0x07) Shape.Text
-    (cond (ltb k 0x0b) Shape.Time
-    (cond (eqb k 0x0b) Shape.Opaque
-    (cond (eqb k 0x0c) Shape.Time
+    (cond (eqb k 0x0b) Shape.Opaque Shape.Time)))
+
+abbrev pub recordTests : ℕ → Shape
+recordTests k =
+    cond (ltb k 0x0d) (lowTests k)
     (cond (eqb k 0x11) Shape.Word
     (cond (eqb k 0x13) Shape.Half
     (cond (eqb k 0x15) Shape.Flag
@@ -33,7 +38,7 @@ recordTests k =
     (cond (ltb k 0x19) Shape.Text
     (cond (eqb k 0x19) Shape.Word
     (cond (ltb k 0x1c) Shape.Opaque
-    (cond (ltb k 0x21) Shape.Text Shape.Opaque)))))))))))))
+    (cond (ltb k 0x21) Shape.Text Shape.Opaque))))))))
 
 -- a shape by its number
 abbrev number : Shape → ℕ
@@ -73,3 +78,6 @@ header k h = one (headerShape k) (headerTests k) (every (λ (k : ℕ). eqb (numb
 pub record-type : (k : ℕ) → k < 256 → recordShape k ≡ recordTests k
 unfolding recordShape
 record-type k h = one (recordShape k) (recordTests k) (every (λ (k : ℕ). eqb (number (recordShape k)) (number (recordTests k))) 256 tt k h)
+
+pub low-type : (k : ℕ) → k < 0x0d → recordShape k ≡ lowTests k
+low-type k h = record-type k (omega arith) ∙ rw (lt-ltb k 0x0d h)

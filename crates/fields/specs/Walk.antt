@@ -37,12 +37,11 @@ fieldAt s c =
     }
 
 -- the next cursor stands after that field, and in a record once an END is passed
+abbrev pub passed : ℕ → Bool → ℕ → Cursor
+passed p r k = record { place = p; «in_record» = r || eqb k 0xff }
+
 abbrev pub after : List ℕ → Cursor → Cursor
-after s c =
-    record {
-      place = c .place + roomOf (lenAt s (c .place));
-      «in_record» = c .«in_record» || eqb (kindAt s (c .place)) 0xff;
-    }
+after s c = passed (c .place + roomOf (lenAt s (c .place))) (c .«in_record») (kindAt s (c .place))
 
 -- 11: place no multiple of 16, or past the buffer
 abbrev pub misplaced : List ℕ → ℕ → Bool

@@ -6,10 +6,8 @@ pub use store::Appended;
 pub use store::append;
 pub use value::Value;
 ghost use mathlib.Core.Path.{_≡_};
-ghost use mathlib.Core.Bool.{_||_};
-ghost use lib.Dec.{eqb};
 ghost use Rattle.fields.specs.Stored.{roomOf, fillOf};
-ghost use Rattle.fields.specs.Walk.{start as startOf, endWithData, walkOf};
+ghost use Rattle.fields.specs.Walk.{start as startOf, endWithData, passed as passedOf, walkOf};
 
 // Where the walk stands, and whether it is in a record or still in the header.
 pub struct Cursor {
@@ -66,14 +64,20 @@ pub fn end_with_data(kind: u8, len: usize) -> bool
     len != 0
 }
 
-// In a record, after a field of this type.
-fn passed(in_record: bool, kind: u8) -> bool
-    ensures { λ r. ⌜ r ≡ («in_record» || eqb kind 0xff) ⌝ }
+// The cursor behind a field of this type.
+fn passed(place: usize, in_record: bool, kind: u8) -> Cursor
+    ensures { λ r. ⌜ r ≡ passedOf place «in_record» kind ⌝ }
 {
     if in_record {
-        return true;
+        return Cursor {
+            place: place,
+            in_record: true,
+        };
     }
-    kind == 0xff
+    Cursor {
+        place: place,
+        in_record: kind == 0xff,
+    }
 }
 
 // The field at the cursor, and the cursor after it.
@@ -114,9 +118,5 @@ pub fn walk(body: &[u8], c: Cursor) -> Walked
         len: len,
         value: value,
     };
-    let next = Cursor {
-        place: at + room,
-        in_record: passed(in_record, kind),
-    };
-    Walked::Took(field, next)
+    Walked::Took(field, passed(at + room, in_record, kind))
 }

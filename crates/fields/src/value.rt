@@ -1,6 +1,6 @@
 // What the data of a field stands for.
 ghost use mathlib.Core.Path.{_≡_};
-ghost use Prim.Native.Nat.{_+_, _*_, _^_};
+ghost use Prim.Native.Nat.{_+_, _*_, _^_, _<_};
 ghost use Rattle.fields.specs.Value.{headerShape, recordShape, shapedOf, valueOf};
 
 // How the data of a field of some type is to be read: Word and Half are numbers of 4 and 2 bytes.
@@ -54,7 +54,9 @@ fn header_shape(kind: u8) -> Shape
     Shape::Opaque
 }
 
-fn record_shape(kind: u8) -> Shape
+// The types up to 0c.
+fn low_shape(kind: u8) -> Shape
+    requires { ⌜ kind < 0x0d ⌝ }
     ensures { λ r. ⌜ r ≡ recordShape kind ⌝ }
 {
     if kind == 0x00 {
@@ -66,14 +68,17 @@ fn record_shape(kind: u8) -> Shape
     if kind < 0x07 {
         return Shape::Text;
     }
-    if kind < 0x0b {
-        return Shape::Time;
-    }
     if kind == 0x0b {
         return Shape::Opaque;
     }
-    if kind == 0x0c {
-        return Shape::Time;
+    Shape::Time
+}
+
+fn record_shape(kind: u8) -> Shape
+    ensures { λ r. ⌜ r ≡ recordShape kind ⌝ }
+{
+    if kind < 0x0d {
+        return low_shape(kind);
     }
     if kind == 0x11 {
         return Shape::Word;

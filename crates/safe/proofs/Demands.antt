@@ -285,8 +285,8 @@ module _ {file passphrase before after : List ℕ} {ceiling : ℕ} {r : Reading}
       × (length (o .done) ≡ length file - 200)
       × (o .rest ≡ []))
       (λ past checked.
-          let w = whole-body v3 v3-laws file passphrase ceiling room (c .bytes) (early v3 file passphrase ceiling room (late past)) in
-          (Ends.blocks-held v3 file passphrase ceiling room (late past) checked, w .0, w .1, w .2))
+      let w = whole-body v3 v3-laws file passphrase ceiling room (c .bytes) (early v3 file passphrase ceiling room (late past)) in
+      (Ends.blocks-held v3 file passphrase ceiling room (late past) checked, w .0, w .1, w .2))
 
   -- ==== CEILINGS. Ceiling 2,047: no file passes; ceiling equal to ITER: passes.
   pub ceiling-below : ceiling < 2048 → numberOf r ≡ 0 → ⊥
@@ -311,8 +311,8 @@ module _ {file passphrase before after : List ℕ} {ceiling : ℕ} {r : Reading}
   reading-eight =
       told (λ n a b. (OneToSeven n → ⊥) → (n ≡ 8) ↔ (Matching passphrase file → ⊥))
       (λ past.
-          let e = Ends.eight-exactly v3 file passphrase ceiling room (late past) in
-          (λ h m. e .0 h (matching passphrase file .0 m), λ h. e .1 λ m. h (matching passphrase file .1 m)))
+      let e = Ends.eight-exactly v3 file passphrase ceiling room (late past) in
+      (λ h m. e .0 h (matching passphrase file .0 m), λ h. e .1 λ m. h (matching passphrase file .1 m)))
 
   -- and past that, whatever is not accepted is 9.
   pub reading-nine : (OneToSeven (numberOf r) → ⊥) → Matching passphrase file → (numberOf r ≡ 0 → ⊥) → numberOf r ≡ 9

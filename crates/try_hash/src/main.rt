@@ -60,50 +60,44 @@ fn stretch(name: &[u8], passphrase: &[u8], iter: u32) {
     put(b"\n");
 }
 
-fn main() {
+fn hashes() {
     named(b"FIPS 180-2 B.1", sha256::hash::hash(b"abc"));
     named(
         b"FIPS 180-2 B.2",
         sha256::hash::hash(b"abcdbcdecdefdefgefghfghighijhijkijkljklmklmnlmnomnopnopq"),
     );
     named(b"FIPS 180-2 B.3", million());
-    named(
-        b"RFC 4231 case 1",
-        sha256::hmac::hmac(&[0x0b; 20], b"Hi There"),
-    );
-    named(
-        b"RFC 4231 case 2",
-        sha256::hmac::hmac(b"Jefe", b"what do ya want for nothing?"),
-    );
-    named(
-        b"RFC 4231 case 3",
-        sha256::hmac::hmac(&[0xaa; 20], &[0xdd; 50]),
-    );
-    named(
+}
+
+fn mac(name: &[u8], key: &[u8], message: &[u8]) {
+    named(name, sha256::hmac::hmac(key, message));
+}
+
+fn macs() {
+    mac(b"RFC 4231 case 1", &[0x0b; 20], b"Hi There");
+    mac(b"RFC 4231 case 2", b"Jefe", b"what do ya want for nothing?");
+    mac(b"RFC 4231 case 3", &[0xaa; 20], &[0xdd; 50]);
+    mac(
         b"RFC 4231 case 4",
-        sha256::hmac::hmac(
-            b"\x01\x02\x03\x04\x05\x06\x07\x08\x09\x0a\x0b\x0c\x0d\x0e\x0f\x10\x11\x12\x13\x14\x15\x16\x17\x18\x19",
-            &[0xcd; 50],
-        ),
+        b"\x01\x02\x03\x04\x05\x06\x07\x08\x09\x0a\x0b\x0c\x0d\x0e\x0f\x10\x11\x12\x13\x14\x15\x16\x17\x18\x19",
+        &[0xcd; 50],
     );
-    named(
-        b"RFC 4231 case 5",
-        sha256::hmac::hmac(&[0x0c; 20], b"Test With Truncation"),
-    );
-    named(
+    mac(b"RFC 4231 case 5", &[0x0c; 20], b"Test With Truncation");
+    mac(
         b"RFC 4231 case 6",
-        sha256::hmac::hmac(
-            &[0xaa; 131],
-            b"Test Using Larger Than Block-Size Key - Hash Key First",
-        ),
+        &[0xaa; 131],
+        b"Test Using Larger Than Block-Size Key - Hash Key First",
     );
-    named(
+    mac(
         b"RFC 4231 case 7",
-        sha256::hmac::hmac(
-            &[0xaa; 131],
-            b"This is a test using a larger than block-size key and a larger than block-size data. The key needs to be hashed before being used by the HMAC algorithm.",
-        ),
+        &[0xaa; 131],
+        b"This is a test using a larger than block-size key and a larger than block-size data. The key needs to be hashed before being used by the HMAC algorithm.",
     );
+}
+
+fn main() {
+    hashes();
+    macs();
     stretch(b"empty passphrase", b"", 2048);
     stretch(b"23 bytes", b"correct horse battery 1", 2048);
     stretch(b"24 bytes", b"correct horse battery 12", 2048);

@@ -1,11 +1,15 @@
--- `record_shape` meets its contract: one computed test makes the lists of types the tests of the code, and each return is the case that its tests pick.
+-- `record_shape` meets its contract: by the computed test of Shapes.antt the lists of types are the tests of the code, and each return is the case that its tests pick.
+use borrow.Author.Needs.{needs}
 use Rattle.text.proofs.Tests.{tests}
 use Rattle.fields.proofs.Shapes.{record-type}
 use Rattle.fields.proofs.value.record_shape.Statement.{statement}
 use Rattle.fields.proofs.value.record_shape.Tie as tie
 
+low-shape-requires : tie.Need-low-shape-requires
+low-shape-requires c κs = search needs
+
 returns : tie.Need-returns
-returns c = search (record-type, tests)
+returns c = search needs
 
 returns-2 : tie.Need-returns-2
 returns-2 c = search (record-type, tests)
@@ -34,25 +38,11 @@ returns-9 c = search (record-type, tests)
 returns-10 : tie.Need-returns-10
 returns-10 c = search (record-type, tests)
 
-returns-11 : tie.Need-returns-11
-returns-11 c = search (record-type, tests)
-
-returns-12 : tie.Need-returns-12
-returns-12 c = search (record-type, tests)
-
-returns-13 : tie.Need-returns-13
-returns-13 c = search (record-type, tests)
-
-returns-14 : tie.Need-returns-14
-returns-14 c = search (record-type, tests)
-
-returns-15 : tie.Need-returns-15
-returns-15 c = search (record-type, tests)
-
 pub record-shape-spec : {M : Type 1} → statement M
 record-shape-spec =
     tie.close
     (tie.spec
+    low-shape-requires
     returns
     returns-2
     returns-3
@@ -62,9 +52,4 @@ record-shape-spec =
     returns-7
     returns-8
     returns-9
-    returns-10
-    returns-11
-    returns-12
-    returns-13
-    returns-14
-    returns-15)
+    returns-10)
