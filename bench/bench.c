@@ -1,6 +1,6 @@
 /*
  * The proved code beside others, in one run: SHA-256 of a long message, whole and in pieces;
- * stretching; Twofish; whole files; judging a body. Each contest checks that all contenders come
+ * stretching; HMAC with its state lent and by value; Twofish; whole files; judging a body. Each contest checks that all contenders come
  * to the same outcome. Libraries that are not there are left out.
  */
 #include <stdio.h>
@@ -42,6 +42,7 @@ const uint8_t iv[16] = {4, 5, 6};
 #endif
 
 #define PROVED(f) {"proved", f, 0},
+#define BY_VALUE(f) {"proved, state by value", f, 0},
 #define PORTABLE(f) {"portable C, gcc -O3", f, 0},
 #define MB(n) ((n) / 1e6)
 #define WHOLE(title) {title, "/s", 1, 3, {PROVED(read_proved) OTHERS}}
@@ -56,6 +57,10 @@ static struct contest contests[] = {
     {"Stretching: hashes of 32 bytes", "M/s", CHAIN / 1e6, 9,
      {PROVED(chain_proved) PORTABLE(chain_portable) OPENSSL(chain_openssl) GCRYPT(chain_gcrypt)
       NETTLE(chain_nettle)}},
+    {"HMAC in pieces of 8 bytes, as over small fields", "MB/s", MB(MESSAGE), 21,
+     {PROVED(small_lent) BY_VALUE(small_by_value)}},
+    {"HMAC in pieces of 400 bytes, as over notes", "MB/s", MB(MESSAGE), 21,
+     {PROVED(notes_lent) BY_VALUE(notes_by_value)}},
     {"Twofish, CBC decryption", "MB/s", MB(TEXT), 9,
      {PROVED(cbc_proved) GCRYPT_TWOFISH(cbc_gcrypt) NETTLE_TWOFISH(cbc_nettle)}},
     {"Twofish, key set-up and one block", "k/s", KEYS / 1e3, 9,
@@ -67,7 +72,7 @@ static struct contest contests[] = {
     {"Judging a body of 4 MB, many small fields", "MB/s", 4.19, 9, {PROVED(judge_proved)}},
 };
 
-enum { COUNT = sizeof contests / sizeof contests[0], FIRST_WHOLE = 5, JUDGE = 9 };
+enum { COUNT = sizeof contests / sizeof contests[0], FIRST_WHOLE = 7, JUDGE = 11 };
 
 static void prepare(int i)
 {

@@ -25,24 +25,34 @@ static void outcome_of(const uint8_t *t, size_t n, uint8_t out[32])
     memcpy(out + 16, t + n - 16, 16);
 }
 
-void cbc_proved(uint8_t out[32])
+typedef void decrypts(const uint8_t *key, uint8_t *t, size_t n);
+
+static void one_text(decrypts *decrypt, uint8_t out[32])
 {
     uint8_t key[32];
     key_number(key, 1);
     memcpy(text, message, TEXT);
-    probe_decrypt(key, iv, text, TEXT);
+    decrypt(key, text, TEXT);
     outcome_of(text, TEXT, out);
 }
 
-void keys_proved(uint8_t out[32])
+static void many_keys(decrypts *decrypt, uint8_t out[32])
 {
     uint8_t key[32], block[16] = {0};
     for (int i = 0; i < KEYS; i++) {
         key_number(key, i);
-        probe_decrypt(key, iv, block, 16);
+        decrypt(key, block, 16);
     }
     outcome_of(block, 16, out);
 }
+
+static void decrypt_proved(const uint8_t *key, uint8_t *t, size_t n)
+{
+    probe_decrypt(key, iv, t, n);
+}
+
+void cbc_proved(uint8_t out[32]) { one_text(decrypt_proved, out); }
+void keys_proved(uint8_t out[32]) { many_keys(decrypt_proved, out); }
 
 #ifdef HAVE_GCRYPT
 void decrypt_gcrypt(const uint8_t *key, uint8_t *t, size_t n)
@@ -55,24 +65,8 @@ void decrypt_gcrypt(const uint8_t *key, uint8_t *t, size_t n)
     gcry_cipher_close(cipher);
 }
 
-void cbc_gcrypt(uint8_t out[32])
-{
-    uint8_t key[32];
-    key_number(key, 1);
-    memcpy(text, message, TEXT);
-    decrypt_gcrypt(key, text, TEXT);
-    outcome_of(text, TEXT, out);
-}
-
-void keys_gcrypt(uint8_t out[32])
-{
-    uint8_t key[32], block[16] = {0};
-    for (int i = 0; i < KEYS; i++) {
-        key_number(key, i);
-        decrypt_gcrypt(key, block, 16);
-    }
-    outcome_of(block, 16, out);
-}
+void cbc_gcrypt(uint8_t out[32]) { one_text(decrypt_gcrypt, out); }
+void keys_gcrypt(uint8_t out[32]) { many_keys(decrypt_gcrypt, out); }
 #endif
 
 #ifdef HAVE_NETTLE
@@ -85,22 +79,6 @@ static void decrypt_nettle(const uint8_t *key, uint8_t *t, size_t n)
     cbc_decrypt(&c, (nettle_cipher_func *)twofish_decrypt, 16, chained, n, t, t);
 }
 
-void cbc_nettle(uint8_t out[32])
-{
-    uint8_t key[32];
-    key_number(key, 1);
-    memcpy(text, message, TEXT);
-    decrypt_nettle(key, text, TEXT);
-    outcome_of(text, TEXT, out);
-}
-
-void keys_nettle(uint8_t out[32])
-{
-    uint8_t key[32], block[16] = {0};
-    for (int i = 0; i < KEYS; i++) {
-        key_number(key, i);
-        decrypt_nettle(key, block, 16);
-    }
-    outcome_of(block, 16, out);
-}
+void cbc_nettle(uint8_t out[32]) { one_text(decrypt_nettle, out); }
+void keys_nettle(uint8_t out[32]) { many_keys(decrypt_nettle, out); }
 #endif

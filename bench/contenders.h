@@ -2,18 +2,23 @@
 #ifndef CONTENDERS_H
 #define CONTENDERS_H
 
+#include <stdbool.h>
 #include <stddef.h>
 #include <stdint.h>
 
 #define MESSAGE (4u << 20)
 #define TEXT (1u << 20)
 #define PIECE 50
+#define SMALL 8   /* a small field's data, as make_body lays it */
+#define NOTES 400 /* a record's notes */
 #define CHAIN 200000
 #define KEYS 2000
 
 /* The proved lower layers. */
 void probe_hash(const uint8_t *m, size_t n, uint8_t out[32]);
 void probe_pieces(const uint8_t *m, size_t n, size_t piece, uint8_t out[32]);
+void probe_hmac_pieces(const uint8_t *key, size_t key_len, const uint8_t *m, size_t n, size_t piece,
+                       bool lent, uint8_t out[32]);
 uint64_t probe_stretch(const uint8_t *passphrase, size_t n, const uint8_t salt[32], uint32_t iter,
                        uint8_t out[32]);
 uint64_t probe_decrypt(const uint8_t key[32], const uint8_t iv[16], uint8_t *text, size_t n);
@@ -34,6 +39,7 @@ typedef void contender(uint8_t outcome[32]);
 contender hash_proved, hash_portable, hash_openssl, hash_gcrypt, hash_nettle;
 contender pieces_proved, pieces_portable, pieces_openssl, pieces_gcrypt, pieces_nettle;
 contender chain_proved, chain_portable, chain_openssl, chain_gcrypt, chain_nettle;
+contender small_lent, small_by_value, notes_lent, notes_by_value;
 contender cbc_proved, cbc_gcrypt, cbc_nettle;
 contender keys_proved, keys_gcrypt, keys_nettle;
 contender read_proved, read_others, judge_proved;

@@ -1,4 +1,4 @@
-/* SHA-256: one long message, the same in pieces, and stretching. */
+/* SHA-256: one long message, the same in pieces, and stretching; HMAC in pieces. */
 #define OPENSSL_SUPPRESS_DEPRECATED
 #include <string.h>
 
@@ -15,23 +15,58 @@
 #include <nettle/sha2.h>
 #endif
 
-/* Long messages. */
-
-void hash_proved(uint8_t out[32]) { probe_hash(message, MESSAGE, out); }
-void pieces_proved(uint8_t out[32]) { probe_pieces(message, MESSAGE, PIECE, out); }
-
 static size_t piece_at(size_t at)
 {
     return MESSAGE - at < PIECE ? MESSAGE - at : PIECE;
 }
 
-void hash_portable(uint8_t out[32])
+/* Stretching: the first hash, then hashes of 32 bytes. */
+
+typedef void hashes(const uint8_t *m, size_t n, uint8_t out[32]);
+
+void first(uint8_t joined[40])
+{
+    memcpy(joined, message, 8);
+    memcpy(joined + 8, salt, 32);
+}
+
+static void chain(hashes *hash, uint8_t out[32])
+{
+    uint8_t joined[40];
+    first(joined);
+    hash(joined, 40, out);
+    for (int i = 0; i < CHAIN; i++)
+        hash(out, 32, out);
+}
+
+/* The proved code. */
+
+void hash_proved(uint8_t out[32]) { probe_hash(message, MESSAGE, out); }
+void pieces_proved(uint8_t out[32]) { probe_pieces(message, MESSAGE, PIECE, out); }
+void chain_proved(uint8_t out[32]) { probe_stretch(message, 8, salt, CHAIN, out); }
+
+static void hmac(size_t piece, bool lent, uint8_t out[32])
+{
+    probe_hmac_pieces(salt, 32, message, MESSAGE, piece, lent, out);
+}
+
+void small_lent(uint8_t out[32]) { hmac(SMALL, true, out); }
+void small_by_value(uint8_t out[32]) { hmac(SMALL, false, out); }
+void notes_lent(uint8_t out[32]) { hmac(NOTES, true, out); }
+void notes_by_value(uint8_t out[32]) { hmac(NOTES, false, out); }
+
+/* Portable C. */
+
+static void portable(const uint8_t *m, size_t n, uint8_t out[32])
 {
     struct portable p;
     portable_start(&p);
-    portable_take(&p, message, MESSAGE);
+    portable_take(&p, m, n);
     portable_finish(&p, out);
 }
+
+void hash_portable(uint8_t out[32]) { portable(message, MESSAGE, out); }
+void chain_portable(uint8_t out[32]) { chain(portable, out); }
 
 void pieces_portable(uint8_t out[32])
 {
@@ -42,35 +77,17 @@ void pieces_portable(uint8_t out[32])
     portable_finish(&p, out);
 }
 
-/* Stretching: the first hash, then hashes of 32 bytes. */
-
-void chain_proved(uint8_t out[32]) { probe_stretch(message, 8, salt, CHAIN, out); }
-
-void first(uint8_t joined[40])
-{
-    memcpy(joined, message, 8);
-    memcpy(joined + 8, salt, 32);
-}
-
-static void short_portable(const uint8_t *m, size_t n, uint8_t out[32])
-{
-    struct portable p;
-    portable_start(&p);
-    portable_take(&p, m, n);
-    portable_finish(&p, out);
-}
-
-void chain_portable(uint8_t out[32])
-{
-    uint8_t joined[40];
-    first(joined);
-    short_portable(joined, 40, out);
-    for (int i = 0; i < CHAIN; i++)
-        short_portable(out, 32, out);
-}
-
 #ifdef HAVE_OPENSSL
-void hash_openssl(uint8_t out[32]) { SHA256(message, MESSAGE, out); }
+static void openssl(const uint8_t *m, size_t n, uint8_t out[32])
+{
+    SHA256_CTX c;
+    SHA256_Init(&c);
+    SHA256_Update(&c, m, n);
+    SHA256_Final(out, &c);
+}
+
+void hash_openssl(uint8_t out[32]) { openssl(message, MESSAGE, out); }
+void chain_openssl(uint8_t out[32]) { chain(openssl, out); }
 
 void pieces_openssl(uint8_t out[32])
 {
@@ -80,26 +97,16 @@ void pieces_openssl(uint8_t out[32])
         SHA256_Update(&c, message + at, piece_at(at));
     SHA256_Final(out, &c);
 }
-
-void chain_openssl(uint8_t out[32])
-{
-    uint8_t joined[40];
-    first(joined);
-    SHA256(joined, 40, out);
-    for (int i = 0; i < CHAIN; i++) {
-        SHA256_CTX c;
-        SHA256_Init(&c);
-        SHA256_Update(&c, out, 32);
-        SHA256_Final(out, &c);
-    }
-}
 #endif
 
 #ifdef HAVE_GCRYPT
-void hash_gcrypt(uint8_t out[32])
+static void gcrypt(const uint8_t *m, size_t n, uint8_t out[32])
 {
-    gcry_md_hash_buffer(GCRY_MD_SHA256, out, message, MESSAGE);
+    gcry_md_hash_buffer(GCRY_MD_SHA256, out, m, n);
 }
+
+void hash_gcrypt(uint8_t out[32]) { gcrypt(message, MESSAGE, out); }
+void chain_gcrypt(uint8_t out[32]) { chain(gcrypt, out); }
 
 void pieces_gcrypt(uint8_t out[32])
 {
@@ -110,19 +117,10 @@ void pieces_gcrypt(uint8_t out[32])
     memcpy(out, gcry_md_read(md, GCRY_MD_SHA256), 32);
     gcry_md_close(md);
 }
-
-void chain_gcrypt(uint8_t out[32])
-{
-    uint8_t joined[40];
-    first(joined);
-    gcry_md_hash_buffer(GCRY_MD_SHA256, out, joined, 40);
-    for (int i = 0; i < CHAIN; i++)
-        gcry_md_hash_buffer(GCRY_MD_SHA256, out, out, 32);
-}
 #endif
 
 #ifdef HAVE_NETTLE
-static void short_nettle(const uint8_t *m, size_t n, uint8_t out[32])
+static void nettle(const uint8_t *m, size_t n, uint8_t out[32])
 {
     struct sha256_ctx c;
     sha256_init(&c);
@@ -130,7 +128,8 @@ static void short_nettle(const uint8_t *m, size_t n, uint8_t out[32])
     sha256_digest(&c, 32, out);
 }
 
-void hash_nettle(uint8_t out[32]) { short_nettle(message, MESSAGE, out); }
+void hash_nettle(uint8_t out[32]) { nettle(message, MESSAGE, out); }
+void chain_nettle(uint8_t out[32]) { chain(nettle, out); }
 
 void pieces_nettle(uint8_t out[32])
 {
@@ -139,14 +138,5 @@ void pieces_nettle(uint8_t out[32])
     for (size_t at = 0; at < MESSAGE; at += PIECE)
         sha256_update(&c, piece_at(at), message + at);
     sha256_digest(&c, 32, out);
-}
-
-void chain_nettle(uint8_t out[32])
-{
-    uint8_t joined[40];
-    first(joined);
-    short_nettle(joined, 40, out);
-    for (int i = 0; i < CHAIN; i++)
-        short_nettle(out, 32, out);
 }
 #endif

@@ -60,7 +60,7 @@ void make_safe(size_t length, uint32_t iter)
     uint8_t k[32], l[32];
     key_number(k, 1);
     key_number(l, 2);
-    make_body(length, 400, 4);
+    make_body(length, NOTES, 4);
     if (talc_write(message, 8, salt, iter, k, l, iv, body, body_len, safe, sizeof safe) != 0)
         stop("a safe was refused");
 }

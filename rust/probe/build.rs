@@ -1,15 +1,7 @@
-//! Links the lower layers, which `rt staticlib probe` makes at the project's root.
+//! Links the proved lower layers.
 
-use std::path::Path;
+include!("../link.rs");
 
 fn main() {
-    let folder = Path::new(env!("CARGO_MANIFEST_DIR")).join("../../target/staticlib");
-    let archive = folder.join("libprobe.a");
-    println!("cargo:rerun-if-changed={}", archive.display());
-    if !archive.exists() {
-        eprintln!("{} is missing: run `rt staticlib probe` first", archive.display());
-        std::process::exit(1);
-    }
-    println!("cargo:rustc-link-search=native={}", folder.display());
-    println!("cargo:rustc-link-lib=static=probe");
+    link("probe", "../..");
 }
