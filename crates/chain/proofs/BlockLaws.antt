@@ -1,8 +1,8 @@
 -- A mode on four words is the mode on their 16 bytes: the bytes of an exclusive or are the exclusive ors of the bytes.
-use Prim.Native.Nat.{ℕ, zero, suc, _/_}
+use Prim.Native.Nat.{ℕ}
 use mathlib.Core.Path.{_≡_, refl, sym, ap, ap₂, _∙_}
-use mathlib.Core.List.{List, _∷_, _++_}
-use lib.Bits.{bitXor, xor-shr, xor-mod, xor-lt}
+use mathlib.Core.List.{List, _++_}
+use lib.Bits.{xor-lt}
 use lib.ListN.{length}
 use Rattle.words.specs.Numbers.{bytesLow, Sized}
 use Rattle.words.specs.Xor.{xored}

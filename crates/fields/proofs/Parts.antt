@@ -1,15 +1,15 @@
 -- A field's bytes, written part by part into the part of a buffer that it takes: the lengths of the parts say where each one goes.
 use Prim.Native.Nat.{ℕ, _+_, _≤_}
-use mathlib.Core.Path.{_≡_, refl, ap, _∙_}
+use mathlib.Core.Path.{_≡_, ap, _∙_}
 use mathlib.Core.List.{List, [], _∷_, _++_, append-assoc, append-nil}
 use native.Mathlib.Omega.{arith}
 use lib.ListN.{length, take, drop, set, length-append, length-take, length-drop, drop-of-length-le}
-use lib.Seq.{take-append-seam, drop-append-seam, drop-drop}
+use lib.Seq.{drop-drop}
 use borrow.Rule.Slice.PartMut.{putMid}
 use Rattle.words.specs.Numbers.{bytesLow, byteOf}
 use Rattle.words.specs.Slices.{copied}
 use Rattle.words.proofs.NumberLaws.{four-low, bytes-sized}
-use Rattle.words.proofs.SliceLaws.{copied-over}
+use Rattle.words.proofs.SliceLaws.{copied-over, put-next}
 use Rattle.fields.specs.Stored.{stored, bytesOf}
 
 -- the four bytes of a length and the type, set one by one
@@ -22,11 +22,6 @@ five (v ∷ w ∷ x ∷ []) n a b c d k h p q r s = absurd (omega arith)
 five (v ∷ w ∷ x ∷ y ∷ []) n a b c d k h p q r s = absurd (omega arith)
 five (v ∷ w ∷ x ∷ y ∷ z ∷ []) n a b c d k h p q r s = rw (four-low n, p, q, r, s)
 five (v ∷ w ∷ x ∷ y ∷ z ∷ u ∷ l) n a b c d k h p q r s = absurd (omega arith)
-
--- w is written, and ys goes into the part right after it
-extend : (w ys d : List ℕ) (i k : ℕ) → length w ≡ i → length ys ≡ k
-    → take i (w ++ drop i d) ++ (ys ++ drop k (drop i (w ++ drop i d))) ≡ (w ++ ys) ++ drop (i + k) d
-extend w ys d i k h g = rw (← h, ← g, take-append-seam w, drop-append-seam w, drop-drop, append-assoc)
 
 -- a part of a list that reaches so far is as long as it says
 part-long : (l : List ℕ) (a n : ℕ) → a + n ≤ length l → length (take n (drop a l)) ≡ n
@@ -45,7 +40,7 @@ then : (w ys d x : List ℕ) (i k : ℕ) → length w ≡ i → k ≡ length ys 
 then w ys d x i k h g l e =
     let n : length (take (length ys) (drop i (w ++ drop i d))) ≡ length ys = part-long (w ++ drop i d) i (length ys) (simp (length-append, length-drop) (omega arith)) in
     let z : x ≡ ys = e ∙ ap (λ (m : ℕ). copied (take m (drop i (w ++ drop i d))) ys) g ∙ copied-over (take (length ys) (drop i (w ++ drop i d))) ys n in
-    ap (λ (m : ℕ). putMid i m (w ++ drop i d) x) g ∙ ap (putMid i (length ys) (w ++ drop i d)) z ∙ extend w ys d i (length ys) h refl
+    ap (λ (m : ℕ). putMid i m (w ++ drop i d) x) g ∙ put-next w ys (drop i d) x i (length ys) h z ∙ ap (λ (t : List ℕ). (w ++ ys) ++ t) (drop-drop (length ys) i d)
 
 -- the head, the data and the fill, each in its part
 pub written : (part : List ℕ) (k : ℕ) (d f h x y : List ℕ) (i j : ℕ) → length part ≡ 5 + length d + length f → i ≡ length d → j ≡ length f

@@ -1,10 +1,10 @@
 -- Demand 2: a reading is accepted exactly for the files that are safes. What is decrypted and encrypted again is the same, so the file's parts are
 -- those of the safe; and the parts of a safe pass every test.
-use Prim.Native.Nat.{ℕ, zero, suc, _+_, _-_, _*_, _/_, _%_, _^_, _<_, _≤_}
+use Prim.Native.Nat.{ℕ, _+_, _-_, _*_, _/_, _%_, _≤_}
 use mathlib.Core.Path.{_≡_, refl, sym, ap, ap₂, _∙_, subst₃}
 use mathlib.Core.Logic.{_↔_}
 use mathlib.Core.Bool.{Bool, true, false, _||_, not}
-use mathlib.Core.List.{List, [], _∷_, _++_, map}
+use mathlib.Core.List.{List, _++_, map}
 use native.Mathlib.Omega.{arith}
 use lib.Dec.{ltb, eqb, lit≤}
 use lib.ListN.{length, take, drop, take-append-drop}
@@ -12,13 +12,12 @@ use lib.Seq.{take-at, drop-at}
 use borrow.Author.Tests.{not-false, ltb-false, eqb-true, le-ltb, eq-eqb}
 use Rattle.words.specs.Numbers.{Bytes, Sized, numberLow, bytesLow}
 use Rattle.words.specs.Slices.{zeros}
-use Rattle.words.proofs.ByteLaws.{sized-take, sized-drop, sized-append, sized-zeros, resized}
+use Rattle.words.proofs.ByteLaws.{sized-take, sized-drop, sized-append, sized-zeros}
 use Rattle.words.proofs.NumberLaws.{bytes-sized}
 use Rattle.chain.specs.Modes.{ecbE, ecbD, cbcE, cbcD, encipher, decipher}
-use Rattle.chain.specs.Opening.{Opening}
 use Rattle.chain.proofs.ModeLaws.{ecb-laws, cbc-laws, encipher-sized, decipher-sized, decipher-encipher, encipher-decipher}
 use Rattle.chain.proofs.StepLaws.{opened-done}
-use Rattle.file.specs.Layout.{Parts, split, join, listed, tag, marker, differ, firstMarker}
+use Rattle.file.specs.Layout.{Parts, split, join, listed, tag, marker, firstMarker}
 use Rattle.file.specs.Edition.{Edition, Stretched, Laws}
 use Rattle.file.specs.Description.{IsSafe, wrapped, cbc, partsOf, fileOf}
 use Rattle.file.specs.Reading.{Report, accepted, badLength, keysOpened, bodyOpened, keyK, keyL, bodyOf, checked, readingOf}

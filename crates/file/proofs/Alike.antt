@@ -1,6 +1,6 @@
 -- Demand 3: the counts by their formulas, and refusals that do not tell the bodies apart: after a match every refusal is the same, and so is every
 -- one before.
-use Prim.Native.Nat.{ℕ, _+_, _-_, _/_, _^_, _<_, _≤_}
+use Prim.Native.Nat.{ℕ, _+_, _-_, _/_}
 use mathlib.Core.Path.{_≡_, refl, sym, ap, ap₂, _∙_}
 use mathlib.Core.Bool.{Bool, true, false}
 use mathlib.Core.List.{List}

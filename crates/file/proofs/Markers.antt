@@ -7,7 +7,7 @@ use native.Mathlib.Omega.{arith}
 use borrow.Author.Tests.{not-true}
 use lib.ListN.{length, take, drop, length-drop}
 use lib.Dec.{eqb, eqb·zero-suc, eqb·suc-suc}
-use lib.Seq.{drop-drop, take-at, drop-at, take-append-le, drop-append-le}
+use lib.Seq.{drop-drop, take-at, take-append-le, drop-append-le}
 use Rattle.words.specs.Slices.{same}
 use Rattle.words.proofs.SliceLaws.{same-true, same-refl}
 use Rattle.file.specs.Layout.{marker, firstMarker}

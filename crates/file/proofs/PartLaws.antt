@@ -1,11 +1,10 @@
 -- A file is its parts put together, and parts of the right sizes are found again in the file that they make: no offset is computed twice.
-use Prim.Native.Nat.{ℕ, zero, suc, _+_, _-_, _*_, _/_, _%_, _^_, _<_, _≤_, min}
+use Prim.Native.Nat.{ℕ, _+_, _-_, _*_, _^_, _<_, _≤_}
 use mathlib.Core.Path.{_≡_, refl, sym, ap, ap₂, _∙_}
-use mathlib.Core.Bool.{Bool, true, false, cond, _&&_, not}
-use mathlib.Core.List.{List, [], _∷_, _++_, append-assoc, append-nil, map}
+use mathlib.Core.List.{List, [], _∷_, _++_, append-nil, map}
 use native.Mathlib.Omega.{arith}
 use native.Mathlib.Nat.{mod-eq-of-lt}
-use lib.ListN.{length, take, drop, getD, length-append, length-take, length-drop, take-append-drop}
+use lib.ListN.{length, take, drop, length-take, length-drop, take-append-drop}
 use Rattle.words.specs.Numbers.{Bytes, numberLow, bytesLow}
 use Rattle.words.proofs.NumberLaws.{number-bytes, bytes-number, number-fits}
 use Rattle.words.proofs.ByteLaws.{bytes-take, bytes-drop}

@@ -1,17 +1,15 @@
 -- No proper prefix of a safe is a safe: its marker would stand, aligned, within the encrypted body of the whole, where no block is the marker.
-use Prim.Native.Nat.{ℕ, _+_, _-_, _*_, _/_, _%_, _<_, _≤_}
+use Prim.Native.Nat.{ℕ, _+_, _-_, _*_, _/_, _<_, _≤_}
 use mathlib.Core.Path.{_≡_, refl, sym, ap, _∙_}
 use mathlib.Core.List.{List, _++_}
 use native.Mathlib.Omega.{arith}
-use lib.ListN.{length, take, drop, length-take, length-drop, take-append-drop}
+use lib.ListN.{length, take, drop, length-drop, take-append-drop}
 use lib.Seq.{drop-drop, take-at, drop-at, take-append-le, drop-append-le, length-take-le}
-use Rattle.words.specs.Numbers.{Bytes}
 use Rattle.file.specs.Layout.{marker}
 use Rattle.file.specs.Edition.{Edition, Laws}
 use Rattle.file.specs.Description.{IsSafe, cbc}
-use Rattle.file.specs.Reading.{readingOf}
 use Rattle.file.proofs.Markers.{marker-sized}
-use Rattle.file.proofs.Accepted.{Answers, file-long, tail-is, cbc-sized, Read, read-safe}
+use Rattle.file.proofs.Accepted.{file-long, tail-is, cbc-sized}
 
 -- a part of a prefix is a part of the whole
 in-prefix : (k j m : ℕ) (l : List ℕ) → k ≤ length l → j + m ≤ k → take m (drop j (take k l)) ≡ take m (drop j l)

@@ -7,7 +7,7 @@ use Rattle.words.specs.Numbers.{Bytes, Sized, bytesLow}
 use Rattle.words.specs.Slices.{zeros}
 use Rattle.chain.specs.Modes.{ecbE, cbcE, encipher}
 use Rattle.file.specs.Layout.{Parts, join, tag, marker}
-use Rattle.file.specs.Edition.{Edition, Stretched}
+use Rattle.file.specs.Edition.{Edition}
 
 module _ (E : Edition) where
   -- B1 to B4: keys K and L, in ECB under P'

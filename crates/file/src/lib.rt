@@ -1,8 +1,7 @@
 // The file by offset, as far as it needs no cipher: its sizes, and the marker.
 ghost use mathlib.Core.Path.{_≡_};
 ghost use Prim.Native.Nat.{_/_};
-ghost use lib.ListN.{length, take};
-ghost use Rattle.words.specs.Slices.{same as sameOf};
+ghost use lib.ListN.{length};
 ghost use Rattle.file.specs.Layout.{marker as markerOf, firstMarker};
 ghost use Rattle.file.specs.Reading.{badLength};
 ghost use Rattle.file.specs.Writing.{badBody};

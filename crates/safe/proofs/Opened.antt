@@ -1,15 +1,15 @@
 -- What decryption hands on is the definition's state: the memory is its text, and the count its own.
-use Prim.Native.Nat.{ℕ, _+_, _-_, _*_, _/_, _%_, _^_, _<_, _≤_}
-use mathlib.Core.Path.{_≡_, refl, sym, ap, ap₂, _∙_}
+use Prim.Native.Nat.{ℕ, _+_, _-_, _*_, _/_, _%_, _^_, _<_}
+use mathlib.Core.Path.{_≡_, ap, _∙_}
 use mathlib.Core.List.{List, [], _++_, append-nil}
 use native.Mathlib.Nat.{mod-eq-of-lt}
 use native.Mathlib.Omega.{arith}
 use lib.ListN.{length, take, drop, length-append, length-drop, drop-of-length-le}
 use lib.Seq.{take-all, length-take-le}
-use Rattle.words.specs.Slices.{zeros, copied}
-use Rattle.chain.specs.Modes.{ecbD, cbcD, ecbE, encipher}
+use Rattle.words.specs.Slices.{zeros}
+use Rattle.chain.specs.Modes.{ecbD, cbcD, ecbE}
 use Rattle.chain.specs.Opening.{Opening, opening, step, run}
-use Rattle.chain.specs.Memory.{blocksIn, opened, sealed, Handed}
+use Rattle.chain.specs.Memory.{opened, sealed, Handed}
 use Rattle.chain.specs.Twofish.{twofishCipher}
 use Rattle.chain.proofs.MemoryLaws.{whole, sealed-whole}
 use Rattle.chain.proofs.StepLaws.{opened-count, opened-rest}
@@ -18,8 +18,6 @@ use Rattle.file.specs.Description.{wrapped}
 use Rattle.file.specs.Reading.{keysOpened, bodyOpened}
 use Rattle.safe.specs.V3.{v3}
 use Rattle.safe.specs.Steps.{Unwrapped, Decrypted}
-use Rattle.safe.specs.declared.wrap.Keys.{Keys}
-use Rattle.words.proofs.SliceLaws.{copied-over}
 
 module _ (d : List ℕ → List ℕ → List ℕ) (n : ℕ) (prev l : List ℕ) (c : ℕ) (h : length l ≡ 16 * n) (k : c + n < 2 ^ 64) where
   abbrev o : Opening

@@ -1,11 +1,10 @@
 -- Values copied out of a slice and parts laid into one: what stands where, by what is taken and dropped.
-use Prim.Native.Nat.{ℕ, suc, _+_, _-_, _<_, _≤_}
+use Prim.Native.Nat.{ℕ, _+_, _-_, _≤_}
 use mathlib.Core.Path.{_≡_, refl, sym, ap, ap₂, _∙_}
-use mathlib.Core.List.{List, [], _∷_, _++_, append-assoc, append-nil}
-use native.Mathlib.Nat.{add-zero}
+use mathlib.Core.List.{List, _++_, append-assoc}
 use native.Mathlib.Omega.{arith}
-use lib.ListN.{length, getD, take, drop, replicate, length-append, length-take, length-drop, length-replicate, drop-of-length-le, take-append-drop, replicate-append-replicate}
-use lib.Seq.{take-all, take-at, drop-at, drop-append-add, drop-cons, drop-drop, length-take-le}
+use lib.ListN.{length, take, drop, length-drop, replicate-append-replicate}
+use lib.Seq.{take-at, drop-at, drop-append-add, drop-drop, length-take-le}
 use Rattle.words.specs.Slices.{zeros, copied}
 use Rattle.words.proofs.SliceLaws.{copied-over}
 use Rattle.words.proofs.ByteLaws.{drop-same}

@@ -1,19 +1,14 @@
 -- The V3 edition meets the laws of an edition: by those of the stretcher, of HMAC, of Twofish and of the well-formed body.
-use Prim.Native.Nat.{ℕ, _+_, _<_, _≤_, _^_}
-use mathlib.Core.Path.{_≡_, refl, sym, _∙_}
-use mathlib.Core.Bool.{Bool, true}
+use Prim.Native.Nat.{ℕ}
+use mathlib.Core.Path.{sym, _∙_}
 use mathlib.Core.List.{List}
 use native.Mathlib.Omega.{arith}
-use lib.ListN.{length}
-use Rattle.words.specs.Numbers.{Bytes, Sized}
-use Rattle.sha256.specs.Sha256.{sha256}
+use Rattle.words.specs.Numbers.{Sized}
 use Rattle.sha256.specs.Hmac.{hmacOf}
 use Rattle.sha256.proofs.Digest.{sha256-sized}
-use Rattle.stretch.specs.Stretch.{startOf, stepOf, stretchedOf, keyOf}
+use Rattle.stretch.specs.Stretch.{startOf, stepOf, stretchedOf}
 use Rattle.stretch.proofs.Counts.{key-sized, check-count}
 use Rattle.chain.proofs.TwofishLaws.{twofishLaws}
-use Rattle.body.specs.WellFormed.{WellFormed}
-use Rattle.body.specs.Decision.{wellFormed, coveredOf}
 use Rattle.body.proofs.Decided.{decides, well-formed, covered-are}
 use Rattle.file.specs.Edition.{Laws}
 use Rattle.safe.specs.V3.{stretchedV3, v3}

@@ -2,7 +2,7 @@
 use Prim.Native.Nat.{ℕ, _+_, _-_, _*_, _/_, _^_, _<_, _≤_}
 use mathlib.Core.Path.{_≡_, refl, sym, ap, ap₂, _∙_}
 use mathlib.Core.Bool.{Bool, true, false, cond, not}
-use mathlib.Core.List.{List, [], _∷_, _++_}
+use mathlib.Core.List.{List, [], _++_}
 use native.Mathlib.Nat.{sub-zero}
 use native.Mathlib.Omega.{arith}
 use lib.Dec.{lit≤}
@@ -20,8 +20,8 @@ use Rattle.chain.specs.Modes.{ecbD}
 use Rattle.chain.specs.Opening.{Opening}
 use Rattle.chain.proofs.StepLaws.{opened-count}
 use Rattle.words.proofs.ByteLaws.{drop-same}
-use Rattle.file.specs.Layout.{Parts, split, differ, firstMarker}
-use Rattle.file.specs.Refusals.{deciding, refuse-if}
+use Rattle.file.specs.Layout.{Parts, split, firstMarker}
+use Rattle.file.specs.Refusals.{deciding}
 use Rattle.file.specs.Edition.{Stretched}
 use Rattle.file.specs.Reading.{Report, refused, accepted, workspaceOf, earlyTests, keysOpened, bodyOpened, keyK, keyL, bodyOf, bodyTests, judged, checked, readingOf}
 use borrow.Author.Tests.{ltb-false}

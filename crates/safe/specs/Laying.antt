@@ -9,7 +9,7 @@ use Rattle.file.specs.Layout.{tag}
 use Rattle.file.specs.Refusals.{refuse-if, deciding}
 use Rattle.file.specs.Edition.{Stretched}
 use Rattle.file.specs.Description.{wrapped, cbc}
-use Rattle.file.specs.Writing.{Writing, unwritten, written, clear}
+use Rattle.file.specs.Writing.{unwritten, written, clear}
 use Rattle.safe.specs.V3.{v3}
 
 -- the parts before the body

@@ -13,11 +13,10 @@ ghost use mathlib.Core.Path.{_≡_};
 ghost use mathlib.Core.Bool.{true};
 ghost use mathlib.Core.List.{_++_};
 ghost use Prim.Native.Nat.{_+_, _-_, _*_, _/_, _≤_};
-ghost use lib.ListN.{length, drop};
+ghost use lib.ListN.{length};
 ghost use Rattle.words.specs.Slices.{zeros};
-ghost use Rattle.body.specs.Decision.{wellFormed, coveredOf};
-ghost use Rattle.file.specs.Description.{cbc};
-ghost use Rattle.safe.specs.V3.{v3, stretchedV3};
+ghost use Rattle.body.specs.Decision.{wellFormed};
+ghost use Rattle.safe.specs.V3.{stretchedV3};
 ghost use Rattle.safe.specs.Answers.{writtenNumber};
 ghost use Rattle.safe.specs.Laying.{headOf, Laid};
 

@@ -5,7 +5,7 @@ use Prim.Native.Nat.{ℕ, zero, suc, _+_, _-_, _*_, _/_, _%_, _^_, _<_, _≤_}
 use native.Mathlib.Omega.{arith}
 use lib.ListN.{length, getD, replicate, length-append, length-replicate, getD-replicate, List·getD-append, List·getD-eq-default}
 use lib.Seq.{getD-append-add}
-use Rattle.words.specs.Numbers.{byteOf, bytesLow, bytesHigh}
+use Rattle.words.specs.Numbers.{byteOf, bytesHigh}
 use Rattle.words.proofs.NumberLaws.{eight-high, byte-is, bytes-mod, bytes-high-sized}
 use Rattle.sha256.specs.Sha256.{zerosAfter, padding, padded}
 

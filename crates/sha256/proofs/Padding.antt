@@ -1,13 +1,12 @@
 -- The padding, taken in as two more pieces, ends the hash: the running state after the padded message is its hash value.
-use mathlib.Core.Path.{_≡_, refl, sym, ap, ap₂, _∙_}
+use mathlib.Core.Path.{_≡_, sym, ap, ap₂, _∙_}
 use mathlib.Core.List.{List, [], _∷_, _++_, append-assoc}
-use Prim.Native.Nat.{ℕ, suc, _+_, _-_, _*_, _/_, _%_, _^_, _<_, _≤_}
+use Prim.Native.Nat.{ℕ, suc, _+_, _-_, _*_, _%_, _^_, _≤_}
 use native.Mathlib.Omega.{arith}
 use lib.ListN.{length, take, set, replicate, length-replicate, replicate-append-replicate}
 use lib.Seq.{take-at, length-take-le}
 use Rattle.words.specs.Numbers.{byteOf, bytesHigh}
 use Rattle.words.proofs.NumberLaws.{eight-high, bytes-mod-high}
-use Rattle.sha256.specs.declared.Vars.{Vars}
 use Rattle.sha256.specs.Sha256.{zerosAfter, padding, hashOf}
 use Rattle.sha256.specs.declared.Running.{Running}
 use Rattle.sha256.specs.Running.{runningOf, Takes}

@@ -2,11 +2,11 @@
 use mathlib.Core.Path.{_≡_, refl, sym, ap, ap₂, _∙_}
 use mathlib.Core.List.{List, [], _∷_, _++_, append-assoc, append-nil}
 use Prim.Native.Nat.{ℕ, zero, suc, _+_, _-_, _*_, _/_, _%_, _^_, _<_, _≤_}
-use native.Mathlib.Nat.{add-zero, add-suc}
+use native.Mathlib.Nat.{add-zero}
 use native.Mathlib.Numerals.{add-one}
 use native.Mathlib.Omega.{arith}
-use lib.ListN.{length, getD, take, drop, replicate, length-append, length-drop, length-replicate, replicate-append-replicate, List·getD-append, drop-of-length-le}
-use lib.Seq.{paste, take-append-seam, take-length, take-at, drop-at, drop-append-add, drop-append-le, drop-drop}
+use lib.ListN.{length, drop, replicate, length-append, length-drop, length-replicate, List·getD-append, drop-of-length-le}
+use lib.Seq.{paste, take-append-seam, take-length, drop-append-add, drop-append-le}
 use Rattle.words.proofs.ByteLaws.{drop-same}
 use Rattle.sha256.specs.declared.Vars.{Vars}
 use Rattle.sha256.specs.Sha256.{wordOf, wordsOf, compressOf, valueOf}

@@ -1,13 +1,13 @@
 -- The rounds over the schedule are the steps, which make the schedule on the way: a word that follows sixteen others needs only these, so what stands before them can be passed.
-use mathlib.Core.Path.{_≡_, refl, sym, ap, ap₂, _∙_}
+use mathlib.Core.Path.{_≡_, refl, sym, ap, _∙_}
 use mathlib.Core.List.{List, [], _∷_, _++_}
-use Prim.Native.Nat.{ℕ, zero, suc, _+_, _-_, _≤_, _<_}
+use Prim.Native.Nat.{ℕ, zero, suc, _+_, _-_, _≤_}
 use native.Mathlib.Omega.{arith}
-use lib.ListN.{length, getD, take, drop, length-append}
+use lib.ListN.{length, getD, length-append}
 use Rattle.sha256.specs.declared.Vars.{Vars}
 use Rattle.sha256.specs.declared.Block.{Block}
 use Rattle.sha256.specs.declared.Work.{Work}
-use Rattle.sha256.specs.Sha256.{ks, plus, Sigma0, Sigma1, back, following, extended, scheduleOf, roundsOf, sumOf, compressOf}
+use Rattle.sha256.specs.Sha256.{ks, back, following, extended, scheduleOf, roundsOf, sumOf, compressOf}
 use Rattle.sha256.specs.Steps.{listOf, nextOf, movedOf, stepOf, stepsOf, quarter}
 
 -- a word before the rest is not looked at

@@ -8,12 +8,12 @@ use super::compression::digest;
 use super::compression::folds;
 use words::numbers::wide_byte;
 ghost use mathlib.Core.Path.{_≡_};
-ghost use mathlib.Core.List.{List, [], _++_};
-ghost use Prim.Native.Nat.{ℕ, _+_, _*_, _%_, _^_, _<_, _≤_};
+ghost use mathlib.Core.List.{[]};
+ghost use Prim.Native.Nat.{_+_, _*_, _%_, _^_, _<_, _≤_};
 ghost use lib.ListN.{length};
 ghost use lib.Seq.{paste};
 ghost use Rattle.words.specs.Numbers.{bytesHigh};
-ghost use Rattle.sha256.specs.Sha256.{hashOf, sha256};
+ghost use Rattle.sha256.specs.Sha256.{sha256};
 ghost use Rattle.sha256.specs.Running.{runningOf, Takes, Ends};
 
 // s over the bytes of t from `at` on.

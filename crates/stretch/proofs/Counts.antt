@@ -1,14 +1,13 @@
 -- What a state of the stretcher holds and how many compressions led there: by recursion on the blocks, and then on the steps.
-use mathlib.Core.Path.{_≡_, refl, sym, ap, ap₂, _∙_}
-use mathlib.Core.List.{List, [], _∷_, _++_}
-use Prim.Native.Nat.{ℕ, zero, suc, _+_, _-_, _*_, _/_, _%_, _^_, _<_, _≤_}
-use native.Mathlib.Nat.{add-zero, mod-eq-of-lt}
-use native.Mathlib.Numerals.{add-one}
+use mathlib.Core.Path.{_≡_, refl, sym, ap, _∙_}
+use mathlib.Core.List.{List, _++_}
+use Prim.Native.Nat.{ℕ, zero, suc, _+_, _-_, _/_, _%_, _^_, _<_}
+use native.Mathlib.Nat.{add-zero}
 use native.Mathlib.Omega.{arith}
 use lib.ListN.{length, length-append}
 use Rattle.words.specs.Numbers.{Sized}
 use Rattle.sha256.specs.declared.Vars.{Vars}
-use Rattle.sha256.specs.Sha256.{padded, blockOf, initial, compressOf, valueOf, hashOf, digestOf, sha256}
+use Rattle.sha256.specs.Sha256.{padded, blockOf, compressOf, valueOf, hashOf, digestOf, sha256}
 use Rattle.sha256.proofs.Digest.{digest-sized}
 use Rattle.sha256.proofs.Padded.{blocks-are}
 use Rattle.stretch.specs.declared.Stretcher.{Stretcher}

@@ -1,13 +1,12 @@
 -- The bytes of a padded message of two parts, one block of them, and the blocks as far as they are taken in.
 use mathlib.Core.Path.{_≡_, refl, sym, ap, ap₂, _∙_}
 use mathlib.Core.List.{List, [], _∷_, _++_}
-use Prim.Native.Nat.{ℕ, zero, suc, _+_, _-_, _*_, _/_, _%_, _<_, _≤_}
-use native.Mathlib.Nat.{add-zero, zero-add}
+use Prim.Native.Nat.{ℕ, _+_, _-_, _*_, _/_, _<_, _≤_}
+use native.Mathlib.Nat.{zero-add}
 use native.Mathlib.Numerals.{add-one}
 use native.Mathlib.Omega.{arith}
-use lib.ListN.{length, getD, take, drop, set, replicate, length-append, length-drop, length-replicate, take-append-drop, List·getD-append}
+use lib.ListN.{length, getD, take, drop, set, replicate, length-append, length-drop, take-append-drop, List·getD-append}
 use lib.Seq.{paste, paste-zero, paste-suc, length-paste, getD-append-add, getD-take, getD-drop, length-take-le, take-all}
-use Rattle.words.specs.Slices.{zeros}
 use Rattle.sha256.specs.Sha256.{padding, padded, wordsOf, blockOf}
 use Rattle.sha256.proofs.Pieces.{words-front}
 use Rattle.sha256.proofs.Padded.{blocks-are, whole-blocks}

@@ -7,7 +7,7 @@ use sha256::compression::compress;
 use words::numbers::wide_byte;
 ghost use mathlib.Core.Path.{_≡_};
 ghost use mathlib.Core.List.{_++_};
-ghost use Prim.Native.Nat.{_+_, _*_, _<_, _≤_, _^_};
+ghost use Prim.Native.Nat.{_+_, _*_, _<_, _≤_};
 ghost use lib.ListN.{length, getD, take, drop};
 ghost use Rattle.sha256.specs.Sha256.{padding, padded};
 ghost use Rattle.sha256.specs.Steps.{listOf};

@@ -5,13 +5,9 @@ use Prim.Native.Nat.{ℕ}
 use native.Mathlib.Omega.{arith}
 use borrow.Rule.Slice.PartMut.{putMid}
 use lib.ListN.{length, take, drop, length-append, length-take, length-drop, drop-of-length-le}
-use lib.Seq.{take-at, drop-at}
+use lib.Seq.{drop-at}
 use Rattle.words.specs.Slices.{copied}
-use Rattle.words.proofs.SliceLaws.{copied-over}
-
--- q is written into the n bytes after p
-after : (p q d x : List ℕ) (m n : ℕ) → length p ≡ m → x ≡ q → putMid m n (p ++ d) x ≡ (p ++ q) ++ drop n d
-after p q d x m n h e = rw (take-at p d m h, drop-at p d m h, e, append-assoc p q (drop n d))
+use Rattle.words.proofs.SliceLaws.{copied-over, put-next}
 
 pub three-parts : (a k l s x y z : List ℕ) → length a ≡ 96 → length k ≡ 32 → length l ≡ 32 → length s ≡ 32
     → x ≡ copied (take 32 a) k → y ≡ copied (take 32 (drop 32 (x ++ drop 32 a))) l → z ≡ s
@@ -28,8 +24,8 @@ three-parts a k l s x y z ha hk hl hs ex ey ez =
     ∙ ap (λ (g : List ℕ). copied (take 32 g) l) (drop-at k d 32 hk) ∙ copied-over (take 32 d) l second
     in
     ap (λ (g : List ℕ). putMid 64 32 (putMid 32 32 (g ++ d) y) z) p
-    ∙ ap (λ (g : List ℕ). putMid 64 32 g z) (after k l d y 32 32 hk q)
-    ∙ after (k ++ l) s (drop 32 d) z 64 32 both ez
+    ∙ ap (λ (g : List ℕ). putMid 64 32 g z) (put-next k l d y 32 32 hk q)
+    ∙ put-next (k ++ l) s (drop 32 d) z 64 32 both ez
     ∙ ap (λ (g : List ℕ). ((k ++ l) ++ s) ++ g) rest
     ∙ append-nil ((k ++ l) ++ s)
     ∙ append-assoc k l s

@@ -1,5 +1,5 @@
 -- A rotation by shifts: the high bits moved down and the low bits moved up share no bit, so their union is their sum; two opposite rotations undo each other. Over any width and distance.
-use mathlib.Core.Path.{_≡_, refl, sym, ap, ap₂, _∙_}
+use mathlib.Core.Path.{_≡_, sym, ap, ap₂, _∙_}
 use Prim.Native.Nat.{ℕ, zero, suc, _+_, _-_, _*_, _/_, _%_, _^_, _<_, _≤_}
 use native.Mathlib.Nat.{mul-mod-left, add-zero, add-comm, mod-lt, mod-self, mod-one, mod-eq-of-lt, div-eq-of-lt, div-one, mul-one, suc-mul, mul-le-mul-right}
 use native.Mathlib.Omega.{arith}

@@ -1,15 +1,16 @@
--- What the loops over slices hold: a copy as far as it has come, and a comparison as far as it has come.
+-- What the loops over slices hold: a copy as far as it has come, and a comparison as far as it has come; and what a part put after another leaves.
 use mathlib.Core.Path.{_≡_, refl, sym, ap, ap₂, _∙_}
 use mathlib.Core.Bool.{Bool, true, false, cond}
-use mathlib.Core.List.{List, [], _∷_, _++_, append-nil}
-use Prim.Native.Nat.{ℕ, zero, suc, _+_, _<_, _≤_}
+use mathlib.Core.List.{List, [], _∷_, _++_, append-assoc, append-nil}
+use Prim.Native.Nat.{ℕ, _+_, _<_, _≤_}
 use native.Mathlib.Omega.{arith}
 use native.Mathlib.Nat.{zero-add}
 use native.Mathlib.Numerals.{add-one}
+use borrow.Rule.Slice.PartMut.{putMid}
 use borrow.Author.Tests.{eq-eqb, ne-eqb, eqb-true}
 use lib.Dec.{eqb}
 use lib.ListN.{length, getD, take, drop, replicate, length-replicate, drop-of-length-le}
-use lib.Seq.{paste, take-all, drop-cons, drop-length}
+use lib.Seq.{paste, take-all, take-at, drop-at, drop-cons, drop-length}
 use Rattle.words.specs.Slices.{copied, same}
 
 -- all of s is copied, or d is full
@@ -32,6 +33,10 @@ copied-over d s h =
 
 pub copied-whole : (n : ℕ) (s : List ℕ) → length s ≡ n → copied (replicate n 0) s ≡ s
 copied-whole n s h = copied-over (replicate n 0) s (length-replicate n 0 ∙ sym h)
+
+-- x, which is q, put into the n bytes right after p
+pub put-next : (p q d x : List ℕ) (m n : ℕ) → length p ≡ m → x ≡ q → putMid m n (p ++ d) x ≡ (p ++ q) ++ drop n d
+put-next p q d x m n h e = rw (take-at p d m h, drop-at p d m h, e, append-assoc p q (drop n d))
 
 pub same-refl : (s : List ℕ) → same s s ≡ true
 unfolding same

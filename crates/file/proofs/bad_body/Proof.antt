@@ -3,7 +3,6 @@ use Prim.Native.Nat.{_-_, _%_}
 use lib.Dec.{eqb}
 use Rattle.file.specs.Writing.{badBody}
 use Rattle.file.proofs.SizeTests.{below, above, inside}
-use borrow.Author.Needs.{needs}
 use Rattle.file.proofs.bad_body.Statement.{statement}
 use Rattle.file.proofs.bad_body.Tie as tie
 

@@ -1,9 +1,8 @@
 -- `file::first_marker` meets its contract. The invariant of its loop: none of the blocks passed is the marker.
-use mathlib.Core.Path.{_≡_, sym, ap, ap₂, _∙_}
-use mathlib.Core.List.{List}
-use Prim.Native.Nat.{ℕ, _≤_, _-_, _+_, _*_, _/_}
+use mathlib.Core.Path.{_≡_}
+use Prim.Native.Nat.{_≤_, _-_, _/_}
 use native.Mathlib.Omega.{arith}
-use lib.ListN.{length, take, drop}
+use lib.ListN.{length}
 use Rattle.words.specs.Slices.{same}
 use Rattle.file.specs.Layout.{marker}
 use Rattle.file.proofs.Markers.{Scanned, scan-start, block-same, scan-stops, scan-goes, scan-ends}

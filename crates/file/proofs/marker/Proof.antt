@@ -1,7 +1,6 @@
 -- `file::marker` meets its contract: it is the definition.
 use mathlib.Core.Path.{refl}
 use Rattle.file.specs.Layout.{marker}
-use borrow.Author.Needs.{needs}
 use Rattle.file.proofs.marker.Statement.{statement}
 use Rattle.file.proofs.marker.Tie as tie
 

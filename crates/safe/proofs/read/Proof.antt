@@ -1,10 +1,9 @@
 -- `safe::read` meets its contract: the early tests, and then the opening.
-use mathlib.Core.Path.{_≡_, refl, sym, ap, _∙_}
+use mathlib.Core.Path.{sym, ap, _∙_}
 use native.Mathlib.Omega.{arith}
 use denote.Ref.{now}
 use lib.ListN.{length, length-replicate}
 use Rattle.words.specs.Slices.{zeros}
-use Rattle.file.proofs.Accepted.{good-length}
 use Rattle.safe.proofs.Verdicts.{reads-refused, reads-passed, passed-sizes}
 use borrow.Author.Needs.{needs}
 use Rattle.safe.proofs.read.Statement.{statement}

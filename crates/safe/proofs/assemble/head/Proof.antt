@@ -5,12 +5,12 @@ use Rattle.safe.specs.V3.{v3, stretchedV3}
 use Rattle.file.specs.Description.{wrapped}
 use Rattle.file.specs.Layout.{tag}
 use Rattle.stretch.proofs.Counts.{key-sized}
-use Rattle.stretch.specs.Stretch.{startOf, stretchedOf}
+use Rattle.stretch.specs.Stretch.{stretchedOf}
 use lib.ListN.{length}
 use denote.Ref.{now}
 use Prim.Native.Nat.{ℕ}
 use mathlib.Core.List.{List}
-use mathlib.Core.Path.{_≡_, refl, sym, ap, _∙_}
+use mathlib.Core.Path.{refl, ap, _∙_}
 use native.Mathlib.Omega.{arith}
 use borrow.Author.Needs.{needs}
 use Rattle.safe.proofs.assemble.head.Statement.{statement}

@@ -1,8 +1,7 @@
 -- `safe::open::judge` meets its contract: the keys and the text that it holds are those of the definition, and so is the verdict.
-use Rattle.file.specs.Edition.{Stretched}
 use lib.ListN.{length, take, drop, length-drop}
-use mathlib.Core.Path.{_≡_, refl, sym, ap, _∙_}
-use mathlib.Core.List.{List, _++_}
+use mathlib.Core.Path.{_≡_, sym, ap, _∙_}
+use mathlib.Core.List.{_++_}
 use Prim.Native.Nat.{ℕ, _-_, _/_}
 use native.Mathlib.Omega.{arith}
 use denote.Ref.{now}

@@ -1,5 +1,5 @@
 -- `safe::open::judged` meets its contract: a body that is not well formed and one of another HMAC get the same answer.
-use mathlib.Core.Path.{_≡_, refl, sym, ap, _∙_}
+use mathlib.Core.Path.{sym, ap, _∙_}
 use Rattle.body.specs.Decision.{judgedOf}
 use Rattle.body.proofs.Answers.{judged-counts, judged-not}
 use Rattle.safe.specs.Steps.{verdictOf}

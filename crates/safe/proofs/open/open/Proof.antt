@@ -3,7 +3,7 @@ use Rattle.safe.specs.V3.{v3, stretchedV3}
 use Rattle.file.specs.Reading.{keyK, keyL, bodyOf, judged}
 use lib.ListN.{length}
 use Prim.Native.Nat.{ℕ, _-_, _/_}
-use mathlib.Core.Path.{_≡_, refl, sym, ap, _∙_}
+use mathlib.Core.Path.{sym, ap, _∙_}
 use mathlib.Core.List.{List}
 use denote.Ref.{now}
 use lib.ListN.{take, drop}

@@ -2,7 +2,6 @@
 use mathlib.Core.Path.{refl}
 use Rattle.file.specs.Reading.{refused}
 use Rattle.safe.specs.Answers.{reported}
-use borrow.Author.Needs.{needs}
 use Rattle.safe.proofs.open.refused.Statement.{statement}
 use Rattle.safe.proofs.open.refused.Tie as tie
 

@@ -1,5 +1,5 @@
 -- `safe::seal::seal` meets its contract. The invariant of its loop: what is taken in, and what is still covered.
-use mathlib.Core.Path.{_≡_, refl, sym, ap, _∙_}
+use mathlib.Core.Path.{_≡_, sym, _∙_}
 use Prim.Native.Nat.{_-_}
 use native.Mathlib.Omega.{arith}
 use lib.ListN.{length}

@@ -1,7 +1,6 @@
 -- `safe::tests::writing` meets its contract: each return has passed the tests before it.
-use mathlib.Core.Path.{_≡_, sym, ap, _∙_}
-use Prim.Native.Nat.{ℕ, _+_}
-use lib.Dec.{ltb}
+use mathlib.Core.Path.{sym, _∙_}
+use Prim.Native.Nat.{_+_}
 use lib.ListN.{length}
 use borrow.Author.Tests.{lt-ltb, le-ltb}
 use Rattle.file.specs.Writing.{earlyWriteTests}

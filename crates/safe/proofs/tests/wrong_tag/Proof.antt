@@ -1,5 +1,5 @@
 -- `safe::tests::wrong_tag` meets its contract: the first four bytes are compared with the tag.
-use mathlib.Core.Path.{_≡_, sym, ap, _∙_}
+use mathlib.Core.Path.{sym, ap, _∙_}
 use mathlib.Core.Bool.{not}
 use lib.Seq.{length-take-le}
 use Rattle.file.specs.Layout.{tag}

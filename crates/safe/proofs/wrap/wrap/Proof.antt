@@ -1,10 +1,9 @@
 -- `safe::wrap::wrap` meets its contract: the two keys are laid side by side, and encrypted.
-use mathlib.Core.Path.{_≡_, refl, sym, ap, _∙_}
-use mathlib.Core.List.{List, [], _++_, append-nil}
+use mathlib.Core.Path.{_≡_, refl, sym, _∙_}
+use mathlib.Core.List.{[], _++_, append-nil}
 use native.Mathlib.Omega.{arith}
 use denote.Ref.{now}
-use lib.ListN.{length, replicate}
-use Rattle.words.specs.Slices.{zeros}
+use lib.ListN.{length}
 use Rattle.safe.proofs.Slots.{laid}
 use Rattle.safe.proofs.Opened.{wrapped-is}
 use borrow.Author.Needs.{needs}

@@ -1,7 +1,6 @@
 -- `sha256::compression::begin` meets its contract: it is the definition.
 use mathlib.Core.Path.{refl}
 use Rattle.sha256.specs.Sha256.{initial}
-use borrow.Author.Needs.{needs}
 use Rattle.sha256.proofs.compression.begin.Statement.{statement}
 use Rattle.sha256.proofs.compression.begin.Tie as tie
 

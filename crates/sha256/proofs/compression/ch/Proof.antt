@@ -2,7 +2,6 @@
 use Prim.Native.Nat.{_-_, _^_}
 use native.Mathlib.Omega.{arith}
 use Rattle.sha256.proofs.Bitwise.{choice}
-use borrow.Author.Needs.{needs}
 use Rattle.sha256.proofs.compression.ch.Statement.{statement}
 use Rattle.sha256.proofs.compression.ch.Tie as tie
 

@@ -1,5 +1,4 @@
 -- `sha256::compression::digest` meets its contract, four bytes at a time.
-use mathlib.Core.Path.{refl}
 use Rattle.sha256.specs.Sha256.{digestOf}
 use Rattle.sha256.proofs.Digest.{four, last-four}
 use borrow.Author.Needs.{needs}

@@ -1,6 +1,5 @@
 -- `sha256::compression::maj` meets its contract, by the law of its shorter form.
 use Rattle.sha256.proofs.Bitwise.{majority}
-use borrow.Author.Needs.{needs}
 use Rattle.sha256.proofs.compression.maj.Statement.{statement}
 use Rattle.sha256.proofs.compression.maj.Tie as tie
 

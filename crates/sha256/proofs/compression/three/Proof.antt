@@ -1,7 +1,6 @@
 -- `sha256::compression::three` meets its contract: it is the definition.
 use mathlib.Core.Path.{refl}
 use Rattle.sha256.specs.Sha256.{three}
-use borrow.Author.Needs.{needs}
 use Rattle.sha256.proofs.compression.three.Statement.{statement}
 use Rattle.sha256.proofs.compression.three.Tie as tie
 

@@ -1,5 +1,5 @@
 -- `sha256::hash::closed` meets its contract, by the law of a piece that ends the block.
-use mathlib.Core.Path.{_≡_, refl, ap, _∙_}
+use mathlib.Core.Path.{ap, _∙_}
 use native.Mathlib.Omega.{arith}
 use denote.Ref.{now}
 use Rattle.sha256.specs.Sha256.{compressOf}

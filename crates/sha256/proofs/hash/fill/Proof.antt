@@ -1,10 +1,10 @@
 -- `sha256::hash::fill` meets its contract. The invariant of its loop: the paste as far as it has come.
-use mathlib.Core.Path.{_≡_, ap, _∙_}
-use Prim.Native.Nat.{_≤_, _-_, _+_}
+use mathlib.Core.Path.{_≡_}
+use Prim.Native.Nat.{_≤_, _-_}
 use native.Mathlib.Numerals.{add-one}
 use native.Mathlib.Omega.{arith}
 use lib.ListN.{length}
-use lib.Seq.{paste, paste-zero, paste-suc, length-paste}
+use lib.Seq.{paste, paste-zero, paste-suc}
 use borrow.Author.Needs.{needs}
 use Rattle.sha256.proofs.hash.fill.Statement.{statement}
 use Rattle.sha256.proofs.hash.fill.Tie as tie

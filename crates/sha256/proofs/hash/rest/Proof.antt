@@ -1,5 +1,5 @@
 -- `sha256::hash::rest` meets its contract, by the law of a piece that follows whole blocks.
-use mathlib.Core.Path.{_≡_, refl, ap, _∙_}
+use mathlib.Core.Path.{refl}
 use native.Mathlib.Omega.{arith}
 use lib.Seq.{take-all}
 use denote.Ref.{now}

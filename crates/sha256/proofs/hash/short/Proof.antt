@@ -1,6 +1,4 @@
 -- `sha256::hash::short` meets its contract, by the law of a piece that leaves the block open.
-use mathlib.Core.Path.{_≡_, refl, ap, _∙_}
-use native.Mathlib.Omega.{arith}
 use denote.Ref.{now}
 use Rattle.sha256.proofs.Pieces.{within}
 use borrow.Author.Needs.{needs}

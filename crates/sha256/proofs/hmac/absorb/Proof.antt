@@ -1,7 +1,7 @@
 -- `sha256::hmac::absorb` meets its contract: a walk of its MIR by hand, since the state is a struct behind a reference. The borrow is
 -- opened, the struct is copied out of its cell, `take_in` is called on the copy and the slice, what it returned is stored over the
 -- cell, and the borrow is closed at it. Of `take_in` the proof knows the contract alone, and it names no field of the struct.
-use mathlib.Core.Path.{_≡_, refl}
+use mathlib.Core.Path.{refl}
 use Prim.Native.Nat.{ℕ}
 use mathlib.Core.List.{[], _∷_, List}
 use lib.Dec.{T as Holds}

@@ -1,6 +1,6 @@
 -- `stretch::Stretcher::stretched` meets its contract. The invariant of its loop: the state after i steps.
 use mathlib.Core.Path.{_≡_, refl, ap, _∙_}
-use Prim.Native.Nat.{_≤_, _-_, _+_}
+use Prim.Native.Nat.{_≤_, _-_}
 use native.Mathlib.Numerals.{add-one}
 use native.Mathlib.Omega.{arith}
 use Rattle.stretch.specs.Stretch.{stepOf, stretchedOf}

@@ -1,5 +1,5 @@
 -- `stretch::first::hash_parts` meets its contract. The invariant of its loop: the blocks passed are taken in, and counted.
-use mathlib.Core.Path.{_≡_, refl, ap, _∙_}
+use mathlib.Core.Path.{_≡_, ap, _∙_}
 use mathlib.Core.List.{_++_}
 use Prim.Native.Nat.{_≤_, _-_, _+_, _/_}
 use native.Mathlib.Omega.{arith}
