@@ -1,6 +1,6 @@
 /*
  * The proved code beside others, in one run: SHA-256 of a long message, whole and in pieces;
- * stretching; HMAC with its state lent and by value; Twofish; whole files; judging a body. Each contest checks that all contenders come
+ * stretching; Twofish; whole files; judging a body. Each contest checks that all contenders come
  * to the same outcome. Libraries that are not there are left out.
  */
 #include <stdio.h>
@@ -11,10 +11,6 @@
 #ifdef HAVE_GCRYPT
 #include <gcrypt.h>
 #endif
-
-uint8_t message[MESSAGE];
-const uint8_t salt[32] = {1, 2, 3};
-const uint8_t iv[16] = {4, 5, 6};
 
 #ifdef HAVE_OPENSSL
 #define OPENSSL(f) {"OpenSSL, no SHA-NI", f, 0},
@@ -42,7 +38,6 @@ const uint8_t iv[16] = {4, 5, 6};
 #endif
 
 #define PROVED(f) {"proved", f, 0},
-#define BY_VALUE(f) {"proved, state by value", f, 0},
 #define PORTABLE(f) {"portable C, gcc -O3", f, 0},
 #define MB(n) ((n) / 1e6)
 #define WHOLE(title) {title, "/s", 1, 3, {PROVED(read_proved) OTHERS}}
@@ -57,10 +52,6 @@ static struct contest contests[] = {
     {"Stretching: hashes of 32 bytes", "M/s", CHAIN / 1e6, 9,
      {PROVED(chain_proved) PORTABLE(chain_portable) OPENSSL(chain_openssl) GCRYPT(chain_gcrypt)
       NETTLE(chain_nettle)}},
-    {"HMAC in pieces of 8 bytes, as over small fields", "MB/s", MB(MESSAGE), 21,
-     {PROVED(small_lent) BY_VALUE(small_by_value)}},
-    {"HMAC in pieces of 400 bytes, as over notes", "MB/s", MB(MESSAGE), 21,
-     {PROVED(notes_lent) BY_VALUE(notes_by_value)}},
     {"Twofish, CBC decryption", "MB/s", MB(TEXT), 9,
      {PROVED(cbc_proved) GCRYPT_TWOFISH(cbc_gcrypt) NETTLE_TWOFISH(cbc_nettle)}},
     {"Twofish, key set-up and one block", "k/s", KEYS / 1e3, 9,
@@ -72,7 +63,7 @@ static struct contest contests[] = {
     {"Judging a body of 4 MB, many small fields", "MB/s", 4.19, 9, {PROVED(judge_proved)}},
 };
 
-enum { COUNT = sizeof contests / sizeof contests[0], FIRST_WHOLE = 7, JUDGE = 11 };
+enum { COUNT = sizeof contests / sizeof contests[0], FIRST_WHOLE = 5, JUDGE = 9 };
 
 static void prepare(int i)
 {
@@ -80,16 +71,17 @@ static void prepare(int i)
         size_t length;
         uint32_t iter;
     } wholes[] = {{1u << 20, 2048}, {1u << 20, 262144}, {4194096, 2048}, {4194096, 262144}};
-    if (i >= FIRST_WHOLE && i < JUDGE)
-        make_safe(wholes[i - FIRST_WHOLE].length, wholes[i - FIRST_WHOLE].iter);
+    if (i >= FIRST_WHOLE && i < JUDGE) {
+        make_body(wholes[i - FIRST_WHOLE].length, 400, 4);
+        make_safe(wholes[i - FIRST_WHOLE].iter);
+    }
     if (i == JUDGE)
         make_body(4194096, 0, 4);
 }
 
 int main(int count, char **arguments)
 {
-    for (size_t i = 0; i < MESSAGE; i++)
-        message[i] = (uint8_t)(i * 2654435761u >> 13);
+    fill_message();
 #ifdef HAVE_GCRYPT
     gcry_control(GCRYCTL_DISABLE_HWF, "intel-shaext", NULL);
     gcry_check_version(NULL);

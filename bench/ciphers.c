@@ -13,12 +13,6 @@
 
 static uint8_t text[TEXT];
 
-void key_number(uint8_t key[32], int i)
-{
-    memset(key, 7, 32);
-    key[0] = (uint8_t)i, key[1] = (uint8_t)(i >> 8);
-}
-
 static void outcome_of(const uint8_t *t, size_t n, uint8_t out[32])
 {
     memcpy(out, t, 16);

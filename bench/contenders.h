@@ -2,23 +2,18 @@
 #ifndef CONTENDERS_H
 #define CONTENDERS_H
 
-#include <stdbool.h>
 #include <stddef.h>
 #include <stdint.h>
 
 #define MESSAGE (4u << 20)
 #define TEXT (1u << 20)
 #define PIECE 50
-#define SMALL 8   /* a small field's data, as make_body lays it */
-#define NOTES 400 /* a record's notes */
 #define CHAIN 200000
 #define KEYS 2000
 
 /* The proved lower layers. */
 void probe_hash(const uint8_t *m, size_t n, uint8_t out[32]);
 void probe_pieces(const uint8_t *m, size_t n, size_t piece, uint8_t out[32]);
-void probe_hmac_pieces(const uint8_t *key, size_t key_len, const uint8_t *m, size_t n, size_t piece,
-                       bool lent, uint8_t out[32]);
 uint64_t probe_stretch(const uint8_t *passphrase, size_t n, const uint8_t salt[32], uint32_t iter,
                        uint8_t out[32]);
 uint64_t probe_decrypt(const uint8_t key[32], const uint8_t iv[16], uint8_t *text, size_t n);
@@ -27,6 +22,7 @@ uint64_t probe_decrypt(const uint8_t key[32], const uint8_t iv[16], uint8_t *tex
 extern uint8_t message[MESSAGE];
 extern const uint8_t salt[32];
 extern const uint8_t iv[16];
+void fill_message(void);
 
 /* Passphrase and salt, which the first hash takes. */
 void first(uint8_t joined[40]);
@@ -39,14 +35,18 @@ typedef void contender(uint8_t outcome[32]);
 contender hash_proved, hash_portable, hash_openssl, hash_gcrypt, hash_nettle;
 contender pieces_proved, pieces_portable, pieces_openssl, pieces_gcrypt, pieces_nettle;
 contender chain_proved, chain_portable, chain_openssl, chain_gcrypt, chain_nettle;
-contender small_lent, small_by_value, notes_lent, notes_by_value;
 contender cbc_proved, cbc_gcrypt, cbc_nettle;
 contender keys_proved, keys_gcrypt, keys_nettle;
 contender read_proved, read_others, judge_proved;
 
 /* A body of records up to about that many bytes, each with notes of that length and some small
-   fields; and a safe around one. They stay for the contenders above. */
+   fields; and a safe around it. They stay for the contenders above. */
+extern uint8_t body[], safe[], workspace[];
+extern size_t body_len;
 void make_body(size_t length, size_t notes, int small);
-void make_safe(size_t length, uint32_t iter);
+void make_safe(uint32_t iter);
+
+/* Ends the run. */
+void stop(const char *what);
 
 #endif

@@ -1,4 +1,4 @@
-/* SHA-256: one long message, the same in pieces, and stretching; HMAC in pieces. */
+/* SHA-256: one long message, the same in pieces, and stretching. */
 #define OPENSSL_SUPPRESS_DEPRECATED
 #include <string.h>
 
@@ -44,16 +44,6 @@ static void chain(hashes *hash, uint8_t out[32])
 void hash_proved(uint8_t out[32]) { probe_hash(message, MESSAGE, out); }
 void pieces_proved(uint8_t out[32]) { probe_pieces(message, MESSAGE, PIECE, out); }
 void chain_proved(uint8_t out[32]) { probe_stretch(message, 8, salt, CHAIN, out); }
-
-static void hmac(size_t piece, bool lent, uint8_t out[32])
-{
-    probe_hmac_pieces(salt, 32, message, MESSAGE, piece, lent, out);
-}
-
-void small_lent(uint8_t out[32]) { hmac(SMALL, true, out); }
-void small_by_value(uint8_t out[32]) { hmac(SMALL, false, out); }
-void notes_lent(uint8_t out[32]) { hmac(NOTES, true, out); }
-void notes_by_value(uint8_t out[32]) { hmac(NOTES, false, out); }
 
 /* Portable C. */
 

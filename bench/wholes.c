@@ -14,12 +14,12 @@
 #include <gcrypt.h>
 #endif
 
-static uint8_t body[TALC_BODY_MAX];
-static uint8_t safe[TALC_FILE_MAX];
-static uint8_t workspace[TALC_BODY_MAX];
-static size_t body_len;
+uint8_t body[TALC_BODY_MAX];
+uint8_t safe[TALC_FILE_MAX];
+uint8_t workspace[TALC_BODY_MAX];
+size_t body_len;
 
-static void stop(const char *what)
+void stop(const char *what)
 {
     fprintf(stderr, "bench: %s\n", what);
     exit(1);
@@ -55,12 +55,11 @@ void make_body(size_t length, size_t notes, int small)
     }
 }
 
-void make_safe(size_t length, uint32_t iter)
+void make_safe(uint32_t iter)
 {
     uint8_t k[32], l[32];
     key_number(k, 1);
     key_number(l, 2);
-    make_body(length, NOTES, 4);
     if (talc_write(message, 8, salt, iter, k, l, iv, body, body_len, safe, sizeof safe) != 0)
         stop("a safe was refused");
 }

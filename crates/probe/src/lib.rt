@@ -1,11 +1,9 @@
 // The layers under the reader at the C boundary, for tests and benchmarks alone: the product does not link them.
-use sha256::Mac;
 use stretch::Stretcher;
 ghost use mathlib.Core.Path.{_≡_};
 ghost use Prim.Native.Nat.{_<_, _≤_};
 ghost use Rattle.sha256.specs.Sha256.{sha256};
 ghost use Rattle.sha256.specs.Hmac.{hmacOf};
-ghost use Rattle.sha256.specs.Running.{MacTakes};
 ghost use Rattle.stretch.specs.Stretch.{startOf, stretchedOf, keyOf};
 ghost use Rattle.chain.specs.Modes.{cbcE, cbcD};
 ghost use Rattle.chain.specs.Memory.{sealedInto, opened, Handed};
@@ -61,45 +59,6 @@ pub extern "C" fn probe_pieces(m: &[u8], piece: usize, out: &mut [u8; 32])
     ensures { λ _. ⌜ now (out .exit) ≡ sha256 (now (m .entry)) ⌝ }
 {
     let h = pieces(m, piece);
-    *out = h;
-}
-
-// One piece more: the state in a local that is lent for it, or handed in and out.
-fn fed(st: Mac, piece: &[u8], lent: bool) -> Mac
-    ensures { λ r. ⌜ MacTakes st (now (piece .entry)) r ⌝ }
-{
-    if lent {
-        return sha256::hmac::fed(st, piece);
-    }
-    sha256::hmac::take_in(st, piece)
-}
-
-// The running HMAC of a message in pieces of that many bytes; 0 counts as 1.
-fn hmac_pieces(key: &[u8], m: &[u8], piece: usize, lent: bool) -> [u8; 32]
-    ensures { λ r. ⌜ r ≡ hmacOf (now (key .entry)) (now (m .entry)) ⌝ }
-{
-    let n = m.len();
-    let mut st = sha256::hmac::start(key);
-    let mut i: usize = 0;
-    while i < n {
-        let e = until(i, piece, n);
-        st = fed(st, &m[i..e], lent);
-        i = e;
-    }
-    sha256::hmac::finish(st)
-}
-
-#[no_mangle]
-pub extern "C" fn probe_hmac_pieces(
-    key: &[u8],
-    m: &[u8],
-    piece: usize,
-    lent: bool,
-    out: &mut [u8; 32],
-)
-    ensures { λ _. ⌜ now (out .exit) ≡ hmacOf (now (key .entry)) (now (m .entry)) ⌝ }
-{
-    let h = hmac_pieces(key, m, piece, lent);
     *out = h;
 }
 

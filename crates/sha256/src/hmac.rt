@@ -76,15 +76,6 @@ pub fn absorb(st: &mut Mac, piece: &[u8])
     *st = take_in(*st, piece);
 }
 
-// The same for a caller that keeps the state by value: a local, lent for one piece.
-pub fn fed(st: Mac, piece: &[u8]) -> Mac
-    ensures { λ r. ⌜ MacTakes st (now (piece .entry)) r ⌝ }
-{
-    let mut s = st;
-    absorb(&mut s, piece);
-    s
-}
-
 // The code of the message.
 pub fn finish(st: Mac) -> [u8; 32]
     ensures { λ r. ⌜ MacEnds st r ⌝ }

@@ -11,15 +11,6 @@ mod raw {
             n: usize,
             out: *mut [u8; 32],
         );
-        pub fn probe_hmac_pieces(
-            key: *const u8,
-            key_len: usize,
-            m: *const u8,
-            n: usize,
-            piece: usize,
-            lent: bool,
-            out: *mut [u8; 32],
-        );
         pub fn probe_stretch(
             passphrase: *const u8,
             n: usize,
@@ -64,15 +55,6 @@ pub fn hmac(key: &[u8], message: &[u8]) -> [u8; 32] {
     let mut out = JUNK;
     let (key, key_len) = (key.as_ptr(), key.len());
     unsafe { raw::probe_hmac(key, key_len, message.as_ptr(), message.len(), &mut out) };
-    out
-}
-
-/// The running HMAC, fed in pieces of that many bytes; its state lent for each piece, or by value.
-pub fn hmac_in_pieces(key: &[u8], message: &[u8], piece: usize, lent: bool) -> [u8; 32] {
-    let mut out = JUNK;
-    let (key, key_len) = (key.as_ptr(), key.len());
-    let (m, n) = (message.as_ptr(), message.len());
-    unsafe { raw::probe_hmac_pieces(key, key_len, m, n, piece, lent, &mut out) };
     out
 }
 

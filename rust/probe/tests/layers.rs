@@ -43,21 +43,6 @@ fn hmacs() {
 }
 
 #[test]
-fn hmacs_in_pieces() {
-    let mut random = Random(8);
-    for length in lengths(&mut random, 500, 1000) {
-        let (key, message): ([u8; 32], _) = (random.array(), random.bytes(length));
-        let whole = peer::hmac::hmac(&key, &message);
-        for piece in [0, 1, 50, 63, 64, 65, 1 + random.below(200), length, length + 1, usize::MAX] {
-            for lent in [true, false] {
-                let ours = probe::hmac_in_pieces(&key, &message, piece, lent);
-                assert_eq!(ours, whole, "{length} by {piece}, lent: {lent}");
-            }
-        }
-    }
-}
-
-#[test]
 fn stretches() {
     let mut random = Random(4);
     for case in 0..400 {

@@ -1,0 +1,74 @@
+/*
+ * This tree's library beside another's, in one run: the HMAC over the fields of a body, judging
+ * it, reading and writing it. Both are linked, each under names of its own (the Makefile's
+ * `against`); `seal` is a function inside the library, and not part of its face.
+ */
+#include <stdio.h>
+#include <string.h>
+
+#include "contenders.h"
+#include "contest.h"
+
+#define SIDE(side)                                                                                 \
+    void side##_seal(uint8_t out[32], const uint8_t l[32], const uint8_t *body, size_t n);         \
+    uint32_t side##_talc_judge(const uint8_t *body, size_t n, uint8_t answer[16]);                 \
+    uint32_t side##_talc_read(const uint8_t *file, size_t n, const uint8_t *p, size_t p_len,       \
+                              uint32_t ceiling, uint8_t *space, size_t room, uint8_t out[96]);     \
+    uint32_t side##_talc_write(const uint8_t *p, size_t p_len, const uint8_t salt[32],             \
+                               uint32_t iter, const uint8_t k[32], const uint8_t l[32],            \
+                               const uint8_t iv[16], const uint8_t *body, size_t n, uint8_t *out,  \
+                               size_t room);                                                       \
+    static void side##_seals(uint8_t out[32])                                                      \
+    {                                                                                              \
+        uint8_t l[32];                                                                             \
+        key_number(l, 2);                                                                          \
+        side##_seal(out, l, body, body_len);                                                       \
+        if (memcmp(out, safe + body_len + 168, 32) != 0)                                           \
+            stop("the HMAC differs from the safe's");                                              \
+    }                                                                                              \
+    static void side##_judges(uint8_t out[32]) { side##_talc_judge(body, body_len, out); }         \
+    static void side##_reads(uint8_t out[32])                                                      \
+    {                                                                                              \
+        uint8_t answer[96];                                                                        \
+        side##_talc_read(safe, body_len + 200, message, 8, 4096, workspace, body_len, answer);     \
+        memcpy(out, answer + 64, 32);                                                              \
+    }                                                                                              \
+    static void side##_writes(uint8_t out[32])                                                     \
+    {                                                                                              \
+        uint8_t k[32], l[32];                                                                      \
+        key_number(k, 1), key_number(l, 2);                                                        \
+        side##_talc_write(message, 8, salt, 2048, k, l, iv, body, body_len, safe, body_len + 200); \
+        memcpy(out, safe + body_len + 168, 32);                                                    \
+    }
+
+SIDE(here)
+SIDE(there)
+
+#define BOTH(f) {{"here", here_##f, 0}, {"there", there_##f, 0}}
+
+static void hold(const char *what, size_t notes, int small)
+{
+    struct contest contests[] = {
+        {"HMAC over all fields", "MB/s", 0, 41, BOTH(seals)},
+        {"Judging", "MB/s", 0, 21, BOTH(judges)},
+        {"Reading, ITER 2,048", "MB/s", 0, 5, BOTH(reads)},
+        {"Writing, ITER 2,048", "MB/s", 0, 5, BOTH(writes)},
+    };
+    make_body(4194096, notes, small);
+    make_safe(2048);
+    printf("\n%s\n", what);
+    for (size_t i = 0; i < sizeof contests / sizeof contests[0]; i++) {
+        contests[i].work = (double)body_len / 1e6;
+        contest_hold(&contests[i]);
+    }
+}
+
+int main(void)
+{
+    fill_message();
+    printf("best of several rounds, interleaved; the last column is the speed as a multiple of\n"
+           "the speed here\n");
+    hold("4 MB of small fields", 0, 4);
+    hold("4 MB of records with notes of 400 bytes", 400, 4);
+    return 0;
+}
