@@ -9,8 +9,14 @@
 #include "contenders.h"
 #include "contest.h"
 
+/* How the library's own functions take a slice. */
+struct slice {
+    const uint8_t *bytes;
+    size_t length;
+};
+
 #define SIDE(side)                                                                                 \
-    void side##_seal(uint8_t out[32], const uint8_t l[32], const uint8_t *body, size_t n);         \
+    void side##_seal(uint8_t out[32], const uint8_t l[32], const struct slice *body);              \
     uint32_t side##_talc_judge(const uint8_t *body, size_t n, uint8_t answer[16]);                 \
     uint32_t side##_talc_read(const uint8_t *file, size_t n, const uint8_t *p, size_t p_len,       \
                               uint32_t ceiling, uint8_t *space, size_t room, uint8_t out[96]);     \
@@ -22,7 +28,8 @@
     {                                                                                              \
         uint8_t l[32];                                                                             \
         key_number(l, 2);                                                                          \
-        side##_seal(out, l, body, body_len);                                                       \
+        struct slice all = {body, body_len};                                                       \
+        side##_seal(out, l, &all);                                                                 \
         if (memcmp(out, safe + body_len + 168, 32) != 0)                                           \
             stop("the HMAC differs from the safe's");                                              \
     }                                                                                              \
