@@ -21,7 +21,7 @@ fn data_at(body: &[u8], at: usize) -> &[u8]
         place: at,
         in_record: false,
     };
-    let Walked::Took(f, next) = fields::walk(body, c) else {
+    let Walked::Took(f, _) = fields::walk(body, c) else {
         return &body[0..0];
     };
     let a = f.place + 5;
