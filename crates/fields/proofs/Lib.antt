@@ -5,3 +5,4 @@ mod Appends
 pub mod Back
 pub mod Numbers
 pub mod Texts
+pub mod Cases
