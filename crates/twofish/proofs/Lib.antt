@@ -5,3 +5,4 @@ pub mod Pairs
 pub mod Rounds
 pub mod Inverse
 pub mod Keyed
+pub mod Vectors
