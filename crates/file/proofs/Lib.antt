@@ -10,3 +10,4 @@ pub mod Alike
 pub mod Ends
 pub mod Decrypted
 pub mod Prefix
+pub mod Cases
