@@ -6,3 +6,4 @@ pub mod Pieces
 pub mod Padding
 pub mod Keys
 pub mod Padded
+pub mod Vectors
