@@ -11,3 +11,4 @@ mod Stands
 mod Hunt
 pub mod Answers
 pub mod Kept
+pub mod Cases
