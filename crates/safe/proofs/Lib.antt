@@ -11,3 +11,4 @@ mod Acceptance
 mod Stretching
 pub mod Instances
 pub mod Demands
+pub mod Cases
