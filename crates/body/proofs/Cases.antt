@@ -1,4 +1,4 @@
--- Small bodies on each side of document 01's clauses: of one the description is written out; the others by the decision, which is computed.
+-- Small bodies on each side of document 01's clauses: of one the description is written out; the others by the decision, which is computed. And find, and what the HMAC covers.
 use Prim.Native.Nat.{ℕ}
 use mathlib.Core.Path.{_≡_, refl, sym, ap, _∙_}
 use mathlib.Core.Bool.{Bool, true, false, false≢true}
@@ -22,7 +22,7 @@ use Rattle.body.specs.declared.Sought.{Sought}
 use Rattle.body.specs.declared.Sought.the-variants as Sought
 use Rattle.body.proofs.Decided.{decides}
 
--- ==== Version and END alone, with any fill: 1 header field, 0 records
+-- ==== Version and END alone, with some fill: the description, written out
 abbrev pub least : List ℕ
 least =
     0x02 ∷ 0x00 ∷ 0x00 ∷ 0x00 ∷ 0x00 ∷ 0x0e ∷ 0x03 ∷ 0x01 ∷ 0x02 ∷ 0x03 ∷ 0x04 ∷ 0x05 ∷ 0x06 ∷ 0x07 ∷ 0x08 ∷ 0x09
