@@ -96,20 +96,20 @@ uuid = to 0x00 0x0f
 
 abbrev pub values : List (List Value × List Value)
 values =
-    -- four bytes under every type: in the header 00 to 14, in a record 00 to 21
+    -- four bytes under every type, in the header and in a record
     (
-      map (λ k. valueOf false k four) (to 0x00 0x14),
+      map (λ k. valueOf false k four) (to 0x00 0xff),
       Value.Misshapen ∷ Value.Misshapen ∷ Value.Text ∷ Value.Text ∷ Value.Time 0x34333231 ∷ Value.Text ∷ Value.Text ∷ Value.Text
           ∷ Value.Text ∷ Value.Text ∷ Value.Text ∷ Value.Text ∷ Value.Opaque ∷ Value.Opaque ∷ Value.Opaque ∷ Value.Text
-          ∷ Value.Text ∷ Value.Text ∷ Value.Opaque ∷ Value.Time 0x34333231 ∷ Value.Opaque ∷ [],
+          ∷ Value.Text ∷ Value.Text ∷ Value.Opaque ∷ Value.Time 0x34333231 ∷ (replicate 235 Value.Opaque ++ (Value.End ∷ [])),
     )
     ∷ (
-      map (λ k. valueOf true k four) (to 0x00 0x21),
+      map (λ k. valueOf true k four) (to 0x00 0xff),
       Value.Opaque ∷ Value.Misshapen ∷ Value.Text ∷ Value.Text ∷ Value.Text ∷ Value.Text ∷ Value.Text ∷ Value.Time 0x34333231
           ∷ Value.Time 0x34333231 ∷ Value.Time 0x34333231 ∷ Value.Time 0x34333231 ∷ Value.Opaque ∷ Value.Time 0x34333231 ∷ Value.Text ∷ Value.Text ∷ Value.Text
           ∷ Value.Text ∷ Value.Number 0x34333231 ∷ Value.Text ∷ Value.Misshapen ∷ Value.Text ∷ Value.Misshapen ∷ Value.Text ∷ Value.Misshapen
           ∷ Value.Text ∷ Value.Number 0x34333231 ∷ Value.Opaque ∷ Value.Opaque ∷ Value.Text ∷ Value.Text ∷ Value.Text ∷ Value.Text
-          ∷ Value.Text ∷ Value.Opaque ∷ [],
+          ∷ Value.Text ∷ (replicate 222 Value.Opaque ++ (Value.End ∷ [])),
     )
     -- each at its own size, and off it
     ∷ (valueOf false 0x01 uuid ∷ valueOf true 0x01 uuid ∷ valueOf true 0x01 (0x10 ∷ uuid) ∷ [], Value.Uuid 0x0706050403020100 0x0f0e0d0c0b0a0908 ∷ Value.Uuid 0x0706050403020100 0x0f0e0d0c0b0a0908 ∷ Value.Misshapen ∷ [])

@@ -86,9 +86,9 @@ pub saved-passes : readingOf v3 saved (0x61 ∷ []) 2048 80 ≡ checked v3 (spli
 unfolding numberLow bytesLow bytesHigh same v3 split tag marker firstMarker badLength earlyTests readingOf
 saved-passes = refl
 
--- 10: the first block becomes the marker; and with another vector nothing is refused
+-- 10: under this vector the second block becomes the marker; and under another nothing is refused
 abbrev vector : List ℕ
-vector = bytesHigh 16 0xe3a31f6ec66508d57e394eeb156efd26
+vector = bytesHigh 16 0x71ad4b31bb6dcb9e373a3943c7e5007e
 
 pub marked : (writes 1024 2048 vector least 232 ≡ 10) × (writes 1024 2048 (zeros 16) least 232 ≡ 0)
 unfolding numberLow bytesLow bytesHigh same v3 marker badBody clear unwritten written earlyWriteTests writeTests writingOf cbc cbcE encipher xored runs divided goodHeader goodRecord goodRuns wellFormed rotateRight rotateLeft twice times gf rule0 rule1 table0 table1 evens odds boxKey mds y0 y1 y2 y3 h wordA wordB subkey subkeys g whiten F0 F1 round rounds encrypt blockOf bytesOf encryptWords encryptBlock
