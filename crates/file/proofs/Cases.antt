@@ -3,7 +3,7 @@ use Prim.Native.Nat.{ℕ}
 use mathlib.Core.Path.{_≡_, refl}
 use mathlib.Core.Bool.{true, false}
 use mathlib.Core.List.{List, [], _∷_, _++_, map}
-use lib.ListN.{take, drop}
+use lib.ListN.{drop}
 use Rattle.words.specs.Numbers.{numberLow, bytesLow, bytesHigh}
 use Rattle.words.specs.Slices.{zeros, same}
 use Rattle.file.specs.Layout.{split, marker, firstMarker}

@@ -6,4 +6,3 @@ pub mod Pieces
 pub mod Padding
 pub mod Keys
 pub mod Padded
-pub mod Vectors

@@ -5,4 +5,3 @@ pub mod Pairs
 pub mod Rounds
 pub mod Inverse
 pub mod Keyed
-pub mod Vectors
