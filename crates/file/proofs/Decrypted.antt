@@ -22,7 +22,7 @@ module _ (E : Edition) (X : Laws E) (file pass : List ℕ) (ceiling room : ℕ) 
       → let s = E .stretched pass (split file .salt) (numberLow (split file .iter)) in
       let n = (length file - 200) / 16 in
       let o = bodyOf E (split file) s n in
-      (o .done ≡ decipher (cbcD (E .cipher) (keyK E (split file) s)) n (split file .iv) (split file .cipher)) × (length (o .done) ≡ length file - 200) × (o .rest ≡ []) × (o .count ≡ 4 + n)
+      (o .done ≡ decipher (cbcD (E .cipher) (keyK E (split file) s)) n (split file .iv) (split file .cipher)) × (length (o .done) ≡ length file - 200) × (o .rest ≡ []) × (o .count ≡ 4 + n) × Bytes (o .done)
   unfolding bodyOpened
   whole-body e =
       let p = split file in
@@ -40,4 +40,5 @@ module _ (E : Edition) (X : Laws E) (file pass : List ℕ) (ceiling room : ℕ) 
         hb .long ∙ sym long,
         opened-rest (cbcD (E .cipher) (keyK E p s)) n (p .iv) (p .cipher) (ks .count) ∙ drop-of-length-le (p .cipher) {i = 16 * n} (omega (arith, l .cipher-long)),
         count-opened E X p s n,
+        hb .bytes,
       )

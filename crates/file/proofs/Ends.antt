@@ -199,6 +199,20 @@ module _ (E : Edition) (file pass : List ℕ) (ceiling room : ℕ) where
         back h (broken e m q) = absurd (h m)
         back h (whole e m w q) = absurd (h m)
 
+    -- past that, 9 exactly where the body is not whole
+    pub nine-exactly : Matches p s → (r .number ≡ 9) ↔ (Whole E p s n → ⊥)
+    unfolding refused accepted
+    nine-exactly m = (
+      λ h w. absurd (let z : r .number ≡ 0 = ap num (passed-early E file pass ceiling room (early E file pass ceiling room l) ∙ is-accepted E p s n m w) in omega arith),
+      λ h. back h ends,
+    )
+      where
+        back : (Whole E p s n → ⊥) → Ends → r .number ≡ 9
+        back h (stopped k a b f q) = absurd (l k a b (ap num q))
+        back h (unmatched e n q) = absurd (n m)
+        back h (broken e m q) = ap num q
+        back h (whole e m w q) = absurd (h w)
+
     pub compressions-held : r .compressions ≡ s .count
     unfolding refused accepted
     compressions-held = go ends

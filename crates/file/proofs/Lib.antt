@@ -9,5 +9,6 @@ pub mod Written
 pub mod Alike
 pub mod Ends
 pub mod Decrypted
+pub mod Nine
 pub mod Prefix
 pub mod Cases

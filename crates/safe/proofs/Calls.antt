@@ -9,7 +9,7 @@ use Rattle.sha256.specs.Sha256.{sha256}
 use Rattle.stretch.specs.Stretch.{startOf, stretchedOf, keyOf}
 use Rattle.chain.specs.Opening.{Opening}
 use Rattle.file.specs.Layout.{split}
-use Rattle.file.specs.Reading.{keyK, bodyOf, readingOf}
+use Rattle.file.specs.Reading.{keyK, keyL, bodyOf, readingOf}
 use Rattle.file.specs.Writing.{writingOf}
 use Rattle.file.proofs.Written.{Values}
 use Rattle.safe.specs.V3.{v3, stretchedV3}
@@ -34,6 +34,9 @@ ivIn file = take 16 (drop 136 file)
 abbrev pub encryptedIn : List ℕ → List ℕ
 encryptedIn file = take (length file - 200) (drop 152 file)
 
+abbrev pub macIn : List ℕ → List ℕ
+macIn file = drop (length file - 32) file
+
 abbrev pub blocksIn : List ℕ → ℕ
 blocksIn file = (length file - 200) / 16
 
@@ -44,9 +47,12 @@ stretchedIn passphrase file = keyOf (stretchedOf (iterIn file) (startOf passphra
 abbrev pub Matching : (passphrase file : List ℕ) → Type 0
 Matching passphrase file = sha256 (stretchedIn passphrase file) ≡ checkIn file
 
--- K as the keys' decryption gives it, and the state that the last block decrypted leaves: the text so far, and the count of the blocks that led there.
-abbrev pub keyIn : (passphrase file : List ℕ) → List ℕ
-keyIn passphrase file = keyK v3 (split file) (stretchedV3 passphrase (saltIn file) (iterIn file))
+-- K and L as the keys' decryption gives them, and the state that the last block decrypted leaves: the text so far, and the count of the blocks that led there.
+abbrev pub keyKIn : (passphrase file : List ℕ) → List ℕ
+keyKIn passphrase file = keyK v3 (split file) (stretchedV3 passphrase (saltIn file) (iterIn file))
+
+abbrev pub keyLIn : (passphrase file : List ℕ) → List ℕ
+keyLIn passphrase file = keyL v3 (split file) (stretchedV3 passphrase (saltIn file) (iterIn file))
 
 abbrev pub lastState : (passphrase file : List ℕ) → Opening
 lastState passphrase file = bodyOf v3 (split file) (stretchedV3 passphrase (saltIn file) (iterIn file)) (blocksIn file)

@@ -30,6 +30,7 @@ use Rattle.file.proofs.Passed.{Late, early}
 use Rattle.file.proofs.Alike.{count-opened, compressed, matched, alike-matched, alike-unmatched}
 use Rattle.file.proofs.Ends as Ends
 use Rattle.file.proofs.Decrypted.{whole-body}
+use Rattle.file.proofs.Nine.{nine}
 use Rattle.file.proofs.Prefix.{no-prefix}
 use Rattle.safe.specs.V3.{v3, stretchedV3}
 use Rattle.safe.specs.Answers.{headersIn, recordsIn, writtenNumber, reported}
@@ -37,7 +38,7 @@ use Rattle.safe.specs.Steps.{Reports}
 use Rattle.safe.specs.declared.Reading.{Reading}
 use Rattle.safe.specs.declared.Written.{Written}
 use Rattle.safe.proofs.V3Laws.{v3-laws}
-use Rattle.safe.proofs.Calls.{saltIn, iterIn, ivIn, encryptedIn, blocksIn, keyIn, lastState, Matching, numberOf, OneToFour, OneToSeven, Reads, Accepts, Writes}
+use Rattle.safe.proofs.Calls.{saltIn, iterIn, ivIn, encryptedIn, macIn, blocksIn, keyKIn, keyLIn, lastState, Matching, numberOf, OneToFour, OneToSeven, Reads, Accepts, Writes}
 use Rattle.safe.proofs.Contracts.{one-report, number-is, k-is, l-is, headers-are, records-are, written-told}
 use Rattle.safe.proofs.Acceptance.{is-read, accepts-exactly}
 use Rattle.safe.proofs.Stretching.{matching}
@@ -273,7 +274,7 @@ module _ {file passphrase before after : List ℕ} {ceiling : ℕ} {r : Reading}
   -- Unless the reading ends in 1 to 8, the state that the count belongs to, before any zeroing, is the whole body decrypted, of which nothing is left.
   pub counts-state : (OneToSeven (numberOf r) → ⊥) → (numberOf r ≡ 8 → ⊥) → let o = lastState passphrase file in
       (r .blocks ≡ o .count)
-      × (o .done ≡ decipher (cbcD twofishCipher (keyIn passphrase file)) (blocksIn file) (ivIn file) (encryptedIn file))
+      × (o .done ≡ decipher (cbcD twofishCipher (keyKIn passphrase file)) (blocksIn file) (ivIn file) (encryptedIn file))
       × (length (o .done) ≡ length file - 200)
       × (o .rest ≡ [])
   unfolding v3 split
@@ -281,7 +282,7 @@ module _ {file passphrase before after : List ℕ} {ceiling : ℕ} {r : Reading}
       let o = lastState passphrase file in
       told (λ n a b. (OneToSeven n → ⊥) → (n ≡ 8 → ⊥)
       → (b ≡ o .count)
-      × (o .done ≡ decipher (cbcD twofishCipher (keyIn passphrase file)) (blocksIn file) (ivIn file) (encryptedIn file))
+      × (o .done ≡ decipher (cbcD twofishCipher (keyKIn passphrase file)) (blocksIn file) (ivIn file) (encryptedIn file))
       × (length (o .done) ≡ length file - 200)
       × (o .rest ≡ []))
       (λ past checked.
@@ -314,10 +315,21 @@ module _ {file passphrase before after : List ℕ} {ceiling : ℕ} {r : Reading}
       let e = Ends.eight-exactly v3 file passphrase ceiling room (late past) in
       (λ h m. e .0 h (matching passphrase file .0 m), λ h. e .1 λ m. h (matching passphrase file .1 m)))
 
-  -- and past that, whatever is not accepted is 9.
-  pub reading-nine : (OneToSeven (numberOf r) → ⊥) → Matching passphrase file → (numberOf r ≡ 0 → ⊥) → numberOf r ≡ 9
-  unfolding refused
+  -- and past that, 9 exactly when the body is not well formed, or its HMAC differs.
+  pub reading-nine : (OneToSeven (numberOf r) → ⊥) → Matching passphrase file
+      → (numberOf r ≡ 9) ↔ ((w : WellFormed (lastState passphrase file .done)) → hmacOf (keyLIn passphrase file) (covered (w .fields)) ≡ macIn file → ⊥)
+  unfolding v3 split
   reading-nine =
+      told (λ n a b. (OneToSeven n → ⊥) → Matching passphrase file
+      → (n ≡ 9) ↔ ((w : WellFormed (lastState passphrase file .done)) → hmacOf (keyLIn passphrase file) (covered (w .fields)) ≡ macIn file → ⊥))
+      (λ past m.
+          let e = nine v3 v3-laws file passphrase ceiling room (c .bytes) (late past) (matching passphrase file .0 m) in
+          (λ h w q. e .0 h (covered (w .fields), (w, refl), q), λ h. e .1 λ d. h (d .1 .0) (ap (hmacOf (keyLIn passphrase file)) (d .1 .1) ∙ d .2)))
+
+  -- So whatever is past 1 to 8 and not accepted is 9.
+  pub reading-else : (OneToSeven (numberOf r) → ⊥) → Matching passphrase file → (numberOf r ≡ 0 → ⊥) → numberOf r ≡ 9
+  unfolding refused
+  reading-else =
       told (λ n a b. (OneToSeven n → ⊥) → Matching passphrase file → (n ≡ 0 → ⊥) → n ≡ 9)
       (λ past m n. ap (λ (u : Report). u .number)
       (matched v3 v3-laws file passphrase ceiling room (c .bytes) (late past) (matching passphrase file .0 m) n))

@@ -1,0 +1,55 @@
+-- Past the check, 9 exactly when the body is not as described, or its HMAC differs: by the two tests of the body, which decide the description.
+use Prim.Native.Nat.{ℕ, _-_, _/_}
+use mathlib.Core.Path.{_≡_, sym, ap, _∙_}
+use mathlib.Core.Logic.{_↔_}
+use mathlib.Core.Bool.{Bool, not}
+use mathlib.Core.List.{List}
+use lib.ListN.{length}
+use borrow.Author.Tests.{not-false}
+use Rattle.words.specs.Numbers.{Bytes, numberLow}
+use Rattle.words.specs.Slices.{same}
+use Rattle.words.proofs.SliceLaws.{same-refl, same-true}
+use Rattle.file.specs.Layout.{Parts, split, differ}
+use Rattle.file.specs.Edition.{Edition, Laws, Stretched}
+use Rattle.file.specs.Reading.{keyL, bodyOf, readingOf}
+use Rattle.file.proofs.Passed.{Late, Matches, Whole, early}
+use Rattle.file.proofs.Decrypted.{whole-body}
+use Rattle.file.proofs.Ends as Ends
+
+module _ (E : Edition) (X : Laws E) (file pass : List ℕ) (ceiling room : ℕ) (fb : Bytes file) where
+  abbrev p : Parts
+  p = split file
+
+  abbrev n : ℕ
+  n = (length file - 200) / 16
+
+  abbrev s : Stretched
+  s = E .stretched pass (p .salt) (numberLow (p .iter))
+
+  abbrev body : List ℕ
+  body = bodyOf E p s n .done
+
+  -- the body's fields have these data, and the file has the HMAC of them
+  abbrev pub Described : Type 0
+  Described = (d : List ℕ) × E .Body body d × (E .hmac (keyL E p s) d ≡ p .mac)
+
+  whole : Described → Whole E p s n
+  whole (d, b, e) =
+      let t = X .decides body d b in
+      record {
+        fine = ap not (t .0);
+        mac = ap (λ (x : List ℕ). differ x (p .mac)) (ap (E .hmac (keyL E p s)) (t .1) ∙ e) ∙ ap not (same-refl (p .mac));
+      }
+
+  described : Bytes body → Whole E p s n → Described
+  described bb w = (
+    E .covered body,
+    X .describes body bb (not-false (E .wellFormed body) (w .fine)),
+    same-true (E .hmac (keyL E p s) (E .covered body)) (p .mac) (not-false (same (E .hmac (keyL E p s) (E .covered body)) (p .mac)) (w .mac)),
+  )
+
+  pub nine : Late (readingOf E file pass ceiling room .number) → Matches p s → (readingOf E file pass ceiling room .number ≡ 9) ↔ (Described → ⊥)
+  nine l m =
+      let e = Ends.nine-exactly E file pass ceiling room l m in
+      let bb = whole-body E X file pass ceiling room fb (early E file pass ceiling room l) .4 in
+      (λ h d. e .0 h (whole d), λ h. e .1 λ w. h (described bb w))
