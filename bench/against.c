@@ -33,18 +33,28 @@ struct slice {
         if (memcmp(out, safe + body_len + 168, 32) != 0)                                           \
             stop("the HMAC differs from the safe's");                                              \
     }                                                                                              \
-    static void side##_judges(uint8_t out[32]) { side##_talc_judge(body, body_len, out); }         \
+    static void side##_judges(uint8_t out[32])                                                     \
+    {                                                                                              \
+        if (side##_talc_judge(body, body_len, out) != 0)                                           \
+            stop("a body was refused");                                                            \
+    }                                                                                              \
     static void side##_reads(uint8_t out[32])                                                      \
     {                                                                                              \
         uint8_t answer[96];                                                                        \
-        side##_talc_read(safe, body_len + 200, message, 8, 4096, workspace, body_len, answer);     \
+        uint32_t number = side##_talc_read(safe, body_len + 200, message, 8, 4096, workspace,      \
+                                           body_len, answer);                                      \
+        if (number != 0)                                                                           \
+            stop("a safe was refused");                                                            \
         memcpy(out, answer + 64, 32);                                                              \
     }                                                                                              \
     static void side##_writes(uint8_t out[32])                                                     \
     {                                                                                              \
         uint8_t k[32], l[32];                                                                      \
         key_number(k, 1), key_number(l, 2);                                                        \
-        side##_talc_write(message, 8, salt, 2048, k, l, iv, body, body_len, safe, body_len + 200); \
+        uint32_t number = side##_talc_write(message, 8, salt, 2048, k, l, iv, body, body_len,      \
+                                            safe, body_len + 200);                                 \
+        if (number != 0)                                                                           \
+            stop("a body was refused");                                                            \
         memcpy(out, safe + body_len + 168, 32);                                                    \
     }
 
@@ -56,10 +66,10 @@ SIDE(there)
 static void hold(const char *what, size_t notes, int small)
 {
     struct contest contests[] = {
-        {"HMAC over all fields", "MB/s", 0, 41, BOTH(seals)},
-        {"Judging", "MB/s", 0, 21, BOTH(judges)},
-        {"Reading, ITER 2,048", "MB/s", 0, 5, BOTH(reads)},
-        {"Writing, ITER 2,048", "MB/s", 0, 5, BOTH(writes)},
+        {"HMAC over all fields", "MB/s", 0, 41, NULL, BOTH(seals)},
+        {"Judging", "MB/s", 0, 21, NULL, BOTH(judges)},
+        {"Reading, ITER 2,048", "MB/s", 0, 5, NULL, BOTH(reads)},
+        {"Writing, ITER 2,048", "MB/s", 0, 5, NULL, BOTH(writes)},
     };
     make_body(4194096, notes, small);
     make_safe(2048);

@@ -157,7 +157,7 @@ int main(void)
     fprintf(stderr, "nothing to compare with\n");
     return 1;
 #endif
-    printf("the same for %d keys, %zu blocks each way, and as many hashes and HMACs\n", CASES,
-           blocks);
+    printf("the same for %d keys, %zu blocks each way, %d hashes and %d HMACs\n", CASES, blocks,
+           CASES, CASES);
     return 0;
 }

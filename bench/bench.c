@@ -40,44 +40,47 @@
 #define PROVED(f) {"proved", f, 0},
 #define PORTABLE(f) {"portable C, gcc -O3", f, 0},
 #define MB(n) ((n) / 1e6)
-#define WHOLE(title) {title, "/s", 1, 3, {PROVED(read_proved) OTHERS}}
+#define WHOLE(title, prepare) {title, "/s", 1, 3, prepare, {PROVED(read_proved) OTHERS}}
+
+enum { SHORT = 1u << 20, LONG = 4194096 };
+
+static void safe_of(size_t length, uint32_t iter)
+{
+    make_body(length, 400, 4);
+    make_safe(iter);
+}
+
+static void short_at_once(void) { safe_of(SHORT, 2048); }
+static void short_stretched(void) { safe_of(SHORT, 262144); }
+static void long_at_once(void) { safe_of(LONG, 2048); }
+static void long_stretched(void) { safe_of(LONG, 262144); }
+static void small_fields(void) { make_body(LONG, 0, 4); }
+
+enum { ONE_MESSAGE, IN_PIECES };
 
 static struct contest contests[] = {
-    {"SHA-256, one long message", "MB/s", MB(MESSAGE), 9,
+    [ONE_MESSAGE] = {"SHA-256, one long message", "MB/s", MB(MESSAGE), 9, NULL,
      {PROVED(hash_proved) PORTABLE(hash_portable) OPENSSL(hash_openssl) GCRYPT(hash_gcrypt)
       NETTLE(hash_nettle)}},
-    {"SHA-256, the same in pieces of 50 bytes", "MB/s", MB(MESSAGE), 9,
+    [IN_PIECES] = {"SHA-256, the same in pieces of 50 bytes", "MB/s", MB(MESSAGE), 9, NULL,
      {PROVED(pieces_proved) PORTABLE(pieces_portable) OPENSSL(pieces_openssl)
       GCRYPT(pieces_gcrypt) NETTLE(pieces_nettle)}},
-    {"Stretching: hashes of 32 bytes", "M/s", CHAIN / 1e6, 9,
+    {"Stretching: hashes of 32 bytes", "M/s", CHAIN / 1e6, 9, NULL,
      {PROVED(chain_proved) PORTABLE(chain_portable) OPENSSL(chain_openssl) GCRYPT(chain_gcrypt)
       NETTLE(chain_nettle)}},
-    {"Twofish, CBC decryption", "MB/s", MB(TEXT), 9,
+    {"Twofish, CBC decryption", "MB/s", MB(TEXT), 9, NULL,
      {PROVED(cbc_proved) GCRYPT_TWOFISH(cbc_gcrypt) NETTLE_TWOFISH(cbc_nettle)}},
-    {"Twofish, key set-up and one block", "k/s", KEYS / 1e3, 9,
+    {"Twofish, key set-up and one block", "k/s", KEYS / 1e3, 9, NULL,
      {PROVED(keys_proved) GCRYPT_TWOFISH(keys_gcrypt) NETTLE_TWOFISH(keys_nettle)}},
-    WHOLE("Reading a body of 1 MB, ITER 2,048"),
-    WHOLE("Reading a body of 1 MB, ITER 262,144"),
-    WHOLE("Reading a body of 4 MB, ITER 2,048"),
-    WHOLE("Reading a body of 4 MB, ITER 262,144"),
-    {"Judging a body of 4 MB, many small fields", "MB/s", 4.19, 9, {PROVED(judge_proved)}},
+    WHOLE("Reading a body of 1 MB, ITER 2,048", short_at_once),
+    WHOLE("Reading a body of 1 MB, ITER 262,144", short_stretched),
+    WHOLE("Reading a body of 4 MB, ITER 2,048", long_at_once),
+    WHOLE("Reading a body of 4 MB, ITER 262,144", long_stretched),
+    {"Judging a body of 4 MB, many small fields", "MB/s", MB(LONG), 9, small_fields,
+     {PROVED(judge_proved)}},
 };
 
-enum { COUNT = sizeof contests / sizeof contests[0], FIRST_WHOLE = 5, JUDGE = 9 };
-
-static void prepare(int i)
-{
-    static const struct {
-        size_t length;
-        uint32_t iter;
-    } wholes[] = {{1u << 20, 2048}, {1u << 20, 262144}, {4194096, 2048}, {4194096, 262144}};
-    if (i >= FIRST_WHOLE && i < JUDGE) {
-        make_body(wholes[i - FIRST_WHOLE].length, 400, 4);
-        make_safe(wholes[i - FIRST_WHOLE].iter);
-    }
-    if (i == JUDGE)
-        make_body(4194096, 0, 4);
-}
+enum { COUNT = sizeof contests / sizeof contests[0] };
 
 int main(int count, char **arguments)
 {
@@ -89,11 +92,9 @@ int main(int count, char **arguments)
 #endif
     printf("best of several rounds, interleaved; the last column is the speed as a multiple of\n"
            "the proved code's\n");
-    for (int i = 0; i < COUNT; i++) {
-        prepare(i);
+    for (int i = 0; i < COUNT; i++)
         contest_hold(&contests[i]);
-    }
     printf("\nproved, pieces of 50 bytes against the whole slice: %.2f\n",
-           contests[0].contenders[0].seconds / contests[1].contenders[0].seconds);
+           contests[ONE_MESSAGE].contenders->seconds / contests[IN_PIECES].contenders->seconds);
     return count > 1 ? contest_draw(contests, COUNT, arguments[1]) : 0;
 }

@@ -30,14 +30,14 @@ void first(uint8_t joined[40]);
 void key_number(uint8_t key[32], int i);
 void decrypt_gcrypt(const uint8_t *key, uint8_t *t, size_t n);
 
-typedef void contender(uint8_t outcome[32]);
+typedef void runs(uint8_t outcome[32]);
 
-contender hash_proved, hash_portable, hash_openssl, hash_gcrypt, hash_nettle;
-contender pieces_proved, pieces_portable, pieces_openssl, pieces_gcrypt, pieces_nettle;
-contender chain_proved, chain_portable, chain_openssl, chain_gcrypt, chain_nettle;
-contender cbc_proved, cbc_gcrypt, cbc_nettle;
-contender keys_proved, keys_gcrypt, keys_nettle;
-contender read_proved, read_others, judge_proved;
+runs hash_proved, hash_portable, hash_openssl, hash_gcrypt, hash_nettle;
+runs pieces_proved, pieces_portable, pieces_openssl, pieces_gcrypt, pieces_nettle;
+runs chain_proved, chain_portable, chain_openssl, chain_gcrypt, chain_nettle;
+runs cbc_proved, cbc_gcrypt, cbc_nettle;
+runs keys_proved, keys_gcrypt, keys_nettle;
+runs read_proved, read_others, judge_proved;
 
 /* A body of records up to about that many bytes, each with notes of that length and some small
    fields; and a safe around it. They stay for the contenders above. */

@@ -33,6 +33,8 @@ void contest_hold(struct contest *contest)
 {
     uint8_t first[OUTCOME];
     struct contender *all = contest->contenders;
+    if (contest->prepare != NULL)
+        contest->prepare();
     for (int round = 0; round < contest->rounds; round++)
         for (int i = 0; i < CONTENDERS && all[i].name != NULL; i++)
             run_once(contest, &all[i], first);

@@ -19,6 +19,7 @@ struct contest {
     const char *unit;
     double work; /* units in one run */
     int rounds;
+    void (*prepare)(void); /* makes what the contenders take, before the first round; or NULL */
     struct contender contenders[CONTENDERS]; /* the proved code first, then until no name */
 };
 

@@ -1,8 +1,8 @@
 /*
  * Lists the logins of a safe: title and user, a line each.
  *
- *   gcc -O2 -Iinclude examples/list.c target/staticlib/libtalcfeather.a -o list
- *   ./list examples/floor.psafe3 "a whole floor of lathes"
+ *   gcc -O2 -Iinclude examples/list.c target/staticlib/libtalcfeather.a -o target/list
+ *   target/list examples/floor.psafe3 "a whole floor of lathes"
  *
  * A passphrase on the command line is for an example alone: others can see it there.
  */
@@ -17,16 +17,16 @@ enum { TITLE = 0x03, USER = 0x04, END = 0xff };
 static uint8_t file[TALC_FILE_MAX + 1];
 static uint8_t workspace[TALC_BODY_MAX];
 
-static size_t read_file(const char *name)
+/* Whether it could be read. A folder opens like a file, and fails when it is read. */
+static bool read_file(const char *name, size_t *length)
 {
     FILE *in = fopen(name, "rb");
-    if (in == NULL) {
-        perror(name);
-        return 0;
-    }
-    size_t length = fread(file, 1, sizeof file, in);
+    if (in == NULL)
+        return false;
+    *length = fread(file, 1, sizeof file, in);
+    bool failed = ferror(in);
     fclose(in);
-    return length;
+    return !failed;
 }
 
 static void print_text(const uint8_t *data, size_t length)
@@ -64,7 +64,11 @@ int main(int count, char **arguments)
         fprintf(stderr, "list FILE PASSPHRASE\n");
         return 64;
     }
-    size_t length = read_file(arguments[1]);
+    size_t length;
+    if (!read_file(arguments[1], &length)) {
+        fprintf(stderr, "%s: can't be read\n", arguments[1]);
+        return 66;
+    }
     const uint8_t *passphrase = (const uint8_t *)arguments[2];
     uint8_t answer[TALC_READ_ANSWER];
     uint32_t refusal = talc_read(file, length, passphrase, strlen(arguments[2]), 1000000,

@@ -1,10 +1,10 @@
 /*
  * Talcfeather: Password Safe V3 files, read and written in lent memory.
  *
- * Link with libtalcfeather.a. The library allocates nothing, keeps nothing
- * between calls, reads no file, clock or random source, needs at most the C
- * library's functions on memory, and can be called from several threads at
- * once.
+ * Link with libtalcfeather.a, which is for x86-64. The library allocates
+ * nothing, keeps nothing between calls, reads no file, clock or random
+ * source, needs at most the C library's functions on memory, and can be
+ * called from several threads at once.
  *
  * ------------------------------------------------------------------------
  * What holds for every call
@@ -17,8 +17,9 @@
  * bytes. A pointer may be null when its length is 0. A value of a fixed size
  * is a pointer to an array of that size, never null. What is behind a
  * `const` pointer is not changed. Memory that a call changes must not
- * overlap any other memory lent to the same call; the library relies on
- * this and does not check it.
+ * overlap any other memory lent to the same call, and no other thread may
+ * write to lent memory, `const` or not, during the call; the library relies
+ * on this and does not check it.
  *
  * Behind a pointer to an `answer` or to `next`, all bytes are set by every
  * call, whatever they held before, when the call is refused as well. Numbers
@@ -67,7 +68,7 @@ extern "C" {
 #define TALC_OK            0  /* not refused */
 #define TALC_LENGTH        1  /* read, write: the file or body has a length that no safe has */
 #define TALC_PASSPHRASE    2  /* read, write: the passphrase is over 1,024 bytes */
-#define TALC_ROOM          3  /* read, write, append: the lent memory is too short */
+#define TALC_ROOM          3  /* read, write, append: memory too short, or past the longest body */
 #define TALC_TAG           4  /* read: the file does not start with PWS3 */
 #define TALC_ITER          5  /* read, write: ITER is under 2,048 */
 #define TALC_CEILING       6  /* read: ITER is above the caller's ceiling */
@@ -132,10 +133,10 @@ static inline uint64_t talc_number(const uint8_t *p)
  *
  * Accepted (0): the workspace holds the body (file_len - 200 bytes), then
  * zeros to its end.
- * Refused: the whole workspace is zero, for 3 too; K, L and the first two
- * numbers are zero. The last two are zero for 1 to 7. For 8, 9 and 0 the
- * third is (passphrase_len + 40) / 64 + 1 + ITER + 1; the fourth is 0 for 8,
- * else 4 + (file_len - 200) / 16.
+ * Refused: the whole workspace is zero, for 3 too; K, L and the numbers at
+ * 64 and 72 are zero. Those at 80 and 88 are zero for 1 to 7. For 8, 9 and 0
+ * the one at 80 is (passphrase_len + 40) / 64 + 1 + ITER + 1; the one at 88
+ * is 0 for 8, else 4 + (file_len - 200) / 16.
  *
  * The HMAC covers the data of all fields and neither their types, lengths
  * nor fill: an accepted file is not proved to be the file that was saved.
@@ -149,10 +150,11 @@ uint32_t talc_read(const uint8_t *file, size_t file_len,
                    uint8_t answer[TALC_READ_ANSWER]);
 
 /*
- * Writes a whole file: exactly the one that talc_read() reads back to the
- * same K, L and body. Salt, keys and initial vector are the caller's; for a
- * new file each comes fresh from a good random source. Written again with
- * the values of a file that was read, the file is the same byte for byte.
+ * Writes a whole file. talc_read() reads it back, under the same passphrase,
+ * a ceiling not below iter and a workspace that holds the body, to the same
+ * K, L and body. Salt, keys and initial vector are the caller's; for a new
+ * file each comes fresh from a good random source. Written again with the
+ * values of a file that was read, the file is the same byte for byte.
  *
  * Refusals, the first that applies, in this order:
  *   1  body_len under 32, over 4,194,096, or no multiple of 16
@@ -192,7 +194,7 @@ uint32_t talc_write(const uint8_t *passphrase, size_t passphrase_len,
  *   40  length of its data
  *   48  kind of value (TALC_VALUE_EMPTY ..)
  *   56  value
- *   64  second half of a Uuid
+ *   64  second half of a Uuid, else 0
  *
  * Refused, and at the end: the answer is zero. Nothing else is written.
  *
@@ -202,8 +204,9 @@ uint32_t talc_write(const uint8_t *passphrase, size_t passphrase_len,
  *   UUID       16 bytes: header 01; record 01. Bytes 0 to 7 as a number,
  *              lowest first; bytes 8 to 15 likewise as the second half.
  *   TIME       4 bytes: header 04, 13; record 07, 08, 09, 0a, 0c. Seconds
- *              since 1970-01-01.
- *   NUMBER     header 00, record 13, 17 (2 bytes); record 11, 19 (4 bytes)
+ *              since 1970-01-01, stored lowest byte first.
+ *   NUMBER     header 00, record 13, 17 (2 bytes); record 11, 19 (4 bytes).
+ *              The number, stored lowest byte first.
  *   FLAG       1 byte: record 15. 1 if the byte is not zero, else 0.
  *   TEXT       well-formed UTF-8 that does not start with EF BB BF and does
  *              not end in 00: header 02, 03, 05 to 0b, 0f, 10, 11; record 02
@@ -230,9 +233,9 @@ uint32_t talc_walk(const uint8_t *body, size_t body_len,
 /*
  * Writes one field into the buffer at `place`, and answers the place after
  * it. fill_len is exactly what remains of the field's last block:
- * 15 - (data_len + 4) % 16. It should come from a random source. The order
- * of fields is the caller's; talc_judge() says whether the whole is well
- * formed.
+ * 15 - (data_len + 4) % 16. The fill should come from a random source. The
+ * order of fields is the caller's; talc_judge() says whether the whole is
+ * well formed.
  *
  * Refusals, the first that applies, in this order:
  *  11  place is no multiple of 16, or over buffer_len

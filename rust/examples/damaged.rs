@@ -7,7 +7,7 @@
 //! The passphrase of all of them is `two hundred logins`.
 
 use peer::body::covered;
-use peer::fields::{all, size, END};
+use peer::fields::{all, fill_needed, stored, END};
 use peer::hmac::hmac;
 use peer::random::Random;
 use peer::safe::{assemble, Parts, MARKER};
@@ -44,15 +44,8 @@ fn logins(random: &mut Random) -> Vec<Vec<Part>> {
 }
 
 fn body_of(entries: &[Vec<Part>]) -> Vec<u8> {
-    let mut body = Vec::new();
-    for (kind, data) in entries.iter().flatten() {
-        let end = body.len() + size(data.len());
-        body.extend((data.len() as u32).to_le_bytes());
-        body.push(*kind);
-        body.extend(data);
-        body.resize(end, 0);
-    }
-    body
+    let field = |(kind, data): &Part| stored(*kind, data, &vec![0; fill_needed(data.len())]);
+    entries.iter().flatten().flat_map(field).collect()
 }
 
 fn safe_of(body: &[u8]) -> Vec<u8> {

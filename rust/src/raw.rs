@@ -1,7 +1,7 @@
 //! The calls themselves, as `include/talcfeather.h` declares and describes them.
 //!
-//! Unsafe to call: pointers must be good for their lengths, and memory that a call changes
-//! must not overlap other memory lent to it.
+//! Unsafe to call: pointers must be good for their lengths, memory that a call changes must not
+//! overlap other memory lent to it, and no other thread may write to lent memory meanwhile.
 
 extern "C" {
     /// Reads a whole file.

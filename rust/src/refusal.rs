@@ -8,9 +8,13 @@ use core::fmt;
 /// let mut workspace = [0u8; 64];
 /// let refusal = talcfeather::read(b"no safe", b"", 2048, &mut workspace).unwrap_err();
 /// assert_eq!(refusal.number(), 1);
+/// assert_eq!(refusal.meaning(), "no safe has a file or body of this length");
+///
+/// let refusal = talcfeather::append(&mut [], 0, 0x03, b"", &[0; 11]).unwrap_err();
 /// assert_eq!(
 ///     refusal.to_string(),
-///     "1: the length is not that of a safe: the file is cut or is no safe; copy it again"
+///     "3: the lent memory is too short, or the field ends past the longest body: \
+///      lend more, or keep less in one safe"
 /// );
 /// ```
 #[derive(Clone, Copy, Debug, PartialEq, Eq)]
@@ -20,7 +24,7 @@ pub enum Refusal {
     Length,
     /// 2: the passphrase is over 1,024 bytes.
     Passphrase,
-    /// 3: the lent memory is too short.
+    /// 3: the lent memory is too short, or (append) the field would end past the longest body.
     Room,
     /// 4: the file does not start with PWS3.
     Tag,
@@ -52,14 +56,22 @@ use Refusal::*;
 
 /// Each refusal with its meaning and what to do about it; the first has number 1.
 const TABLE: [(Refusal, &str, &str); 14] = [
-    (Length, "the length is not that of a safe", "the file is cut or is no safe; copy it again"),
-    (Passphrase, "the passphrase is over 1,024 bytes", "use the passphrase of the file"),
-    (Room, "the lent memory is too short", "lend more"),
+    (
+        Length,
+        "no safe has a file or body of this length",
+        "take a whole file, or a body of 32 to 4,194,096 bytes in blocks of 16",
+    ),
+    (Passphrase, "the passphrase is over 1,024 bytes", "take a shorter one"),
+    (
+        Room,
+        "the lent memory is too short, or the field ends past the longest body",
+        "lend more, or keep less in one safe",
+    ),
     (Tag, "this is no Password Safe V3 file", "choose a .psafe3 file"),
     (
         Iter,
         "the passphrase is stretched fewer than 2,048 times",
-        "save the file again with a current program",
+        "save the file with 2,048 or more",
     ),
     (
         Ceiling,
@@ -74,8 +86,8 @@ const TABLE: [(Refusal, &str, &str); 14] = [
     ),
     (
         Body,
-        "the content is damaged, or breaks a rule of the format",
-        "copy the file again; or give every entry a title and a password and save it again",
+        "the body is damaged, or breaks a rule of the format",
+        "take another copy, or mend the body",
     ),
     (Collision, "an encrypted block equals the end marker", "write with another initial vector"),
     (Place, "the place is no multiple of 16, or past the end", "start from the last answer"),

@@ -8,7 +8,7 @@ use common::bodies::{any, damage, data, good, join};
 use common::calls::*;
 use peer::body::{covered, judge};
 use peer::chain::cbc_encrypt;
-use peer::fields::{all, size, Cursor, END};
+use peer::fields::{all, fill_needed, Cursor, END};
 use peer::hmac::hmac;
 use peer::random::Random;
 use peer::safe::{assemble, Parts, MARKER};
@@ -216,7 +216,7 @@ fn append_case(random: &mut Random, met: &mut Met) {
     if kind == END && random.one_in(2) {
         data.clear();
     }
-    let needed = size(data.len()) - 5 - data.len();
+    let needed = fill_needed(data.len());
     let wrong = [needed + 1, needed.saturating_sub(1), needed + 16, random.below(32), 0];
     let fill = if random.one_in(6) { random.pick(&wrong) } else { needed };
     let fill = random.bytes(fill);

@@ -25,7 +25,7 @@ fn run(program: &Path, arguments: &[&str]) -> (i32, String) {
 #[test]
 fn every_call() {
     let program = compiled("rust/tests/header.c", "header");
-    assert_eq!(run(&program, &[]), (0, "1 1 0 11 3 12 9 9\n".to_string()));
+    assert_eq!(run(&program, &[]), (0, "1 1 0 11 3 12 9 9 \n".to_string()));
 }
 
 #[test]
@@ -37,5 +37,7 @@ fn the_example() {
     assert_eq!(out, logins.join("\t\n") + "\t\nSägewerk\tmüller\t\n");
     assert_eq!(run(&program, &["examples/floor.psafe3", "a whole"]).0, 8);
     assert_eq!(run(&program, &["examples/list.c", ""]).0, 1);
-    assert_eq!(run(&program, &["no such file", ""]).0, 1);
+    for unreadable in ["no such file", "examples"] {
+        assert_eq!(run(&program, &[unreadable, ""]), (66, String::new()));
+    }
 }

@@ -4,7 +4,7 @@ mod common;
 
 use common::bodies::{field, join, part, Part};
 use common::calls::*;
-use peer::fields::{append, size, Cursor, END};
+use peer::fields::{append, fill_needed, size, Cursor, END};
 use peer::random::Random;
 use peer::safe::{assemble, Parts};
 
@@ -252,7 +252,7 @@ fn values_of_every_type() {
         for length in [0, 1, 2, 3, 4, 5, 8, 15, 16, 17] {
             let mut body = vec![0; size(length)];
             let ones = vec![1; length];
-            let fill = vec![0; size(length) - 5 - length];
+            let fill = vec![0; fill_needed(length)];
             let data = if kind == END { &[][..] } else { &ones };
             let fill = if kind == END { &[0; 11][..] } else { &fill };
             append(&mut body, 0, kind, data, fill).unwrap();

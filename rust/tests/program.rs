@@ -8,6 +8,7 @@ use peer::random::Random;
 use peer::safe::{write, Parts};
 use std::fs;
 use std::io::{Read, Write};
+use std::os::unix::fs::PermissionsExt;
 use std::os::unix::process::CommandExt;
 use std::path::{Path, PathBuf};
 use std::process::{Command, Stdio};
@@ -87,7 +88,7 @@ fn body() -> Vec<u8> {
         part(0x00, &[0x0e, 0x03]),
         part(END, &[]),
         part(0x01, UUID),
-        part(0x03, "Drehbank\t3\u{1b}[2J ä".as_bytes()),
+        part(0x03, "Drehbank\t3\u{1b}[2J \\t ä".as_bytes()),
         part(0x03 + 1, b"worker"),
         part(0x02, b"Floor.Lathes"),
         part(0x0a, &1_900_000_000u32.to_le_bytes()),
@@ -124,8 +125,8 @@ fn check() {
     let ended = talc(&["check", path(&file), "--passphrase-stdin"], PASSPHRASE);
     assert_eq!(ended.status, 0, "{}", ended.err);
     let blocks = 4 + body().len() / 16;
-    let said = format!("accepted, 1 header fields, 2 records (2050 compressions, {blocks} blocks)");
-    assert!(ended.out.contains(&said), "{}", ended.out);
+    let counts = format!("header fields: 1, records: 2, compressions: 2050, blocks: {blocks}");
+    assert_eq!(ended.out, format!("{}: accepted; {counts}\n", file.display()));
 }
 
 #[test]
@@ -134,7 +135,7 @@ fn list_shows_no_password_and_steers_no_terminal() {
     let file = folder.put("a.psafe3", &safe());
     let ended = talc(&["list", path(&file), "--passphrase-stdin"], PASSPHRASE);
     assert_eq!(ended.status, 0, "{}", ended.err);
-    let lines = "Drehbank\\t3\\u{1b}[2J ä\tworker\tFloor.Lathes\t2030-03-17\nPrinter\t\t\t\n";
+    let lines = "Drehbank\\t3\\u{1b}[2J \\\\t ä\tworker\tFloor.Lathes\t2030-03-17\nPrinter\t\t\t\n";
     assert_eq!(ended.out, lines);
 }
 
@@ -147,7 +148,8 @@ fn fields_hides_passwords() {
     assert!(!ended.out.contains("password itself") && !ended.out.contains("old password"));
     assert!(!ended.out.contains("another") && !ended.out.contains("two factor key"));
     assert_eq!(ended.out.matches("(hidden)").count(), 4);
-    assert_eq!(ended.out.matches("record ").count(), 2);
+    let titles: Vec<&str> = ended.out.lines().filter(|line| !line.starts_with(' ')).collect();
+    assert_eq!(titles, ["header", "record 0", "record 1"]);
     assert_eq!(ended.out.lines().count(), 15 + 3);
     assert!(ended.out.contains("Number     782"));
     assert!(ended.out.contains("Time       2030-03-17 17:46:40 UTC"));
@@ -182,6 +184,7 @@ fn resave() {
         assert_eq!(ended.status, 0, "{}", ended.err);
         assert!(ended.out.contains("the same byte for byte"), "{}", ended.out);
         assert!(fs::read(out).unwrap() == safe());
+        assert_eq!(fs::metadata(out).unwrap().permissions().mode() & 0o777, 0o600);
     }
     assert_eq!(folder.names(), ["a.psafe3", "b.psafe3", "c.psafe3"]);
 }
@@ -213,6 +216,8 @@ fn passphrases() {
         let by_file = talc(&["check", path(&file), "--passphrase-file", path(&stored)], b"");
         let by_stdin = talc(&["check", path(&file), "--passphrase-stdin"], passphrase);
         assert_eq!(by_file.status, by_stdin.status);
+        let joined = format!("--passphrase-file={}", path(&stored));
+        assert_eq!(talc(&[&joined, "check", path(&file)], b"").status, by_stdin.status);
         by_file.status
     };
     assert_eq!(status(b"floor 2"), 0);
@@ -243,12 +248,12 @@ fn refusals() {
         (vec![0; 4_194_304], 1, "cut or is no safe"),
         (vec![0; 5_000_000], 1, "cut or is no safe"),
         (with(0, b"PWS4"), 4, "choose a .psafe3 file"),
-        (with(36, &[0; 4]), 5, "save the file again"),
-        (with(36, &[0xff; 4]), 6, "raise the ceiling"),
+        (with(36, &[0; 4]), 5, "save it with a current program"),
+        (with(36, &[0xff; 4]), 6, "raise --ceiling"),
         (safe[..safe.len() - 16].to_vec(), 7, "copy it again"),
         (with(152, b"PWS3-EOFPWS3-EOF"), 7, "copy it again"),
         (with(40, &[0; 32]), 8, "type it again"),
-        (with(safe.len() - 1, &[0, 0][..1]), 9, "damaged"),
+        (with(safe.len() - 1, &[0, 0][..1]), 9, "if it stays, give every entry"),
         (with(160, &[0]), 9, "damaged"),
     ];
     for (bytes, number, words) in cases {
@@ -294,6 +299,9 @@ fn ceilings() {
     let file = folder.put("a.psafe3", &safe());
     for (ceiling, status) in [("2047", 6), ("2048", 0), ("4294967295", 0), ("0", 6)] {
         let arguments = ["check", path(&file), "--passphrase-stdin", "--ceiling", ceiling];
+        assert_eq!(talc(&arguments, PASSPHRASE).status, status);
+        let joined = format!("--ceiling={ceiling}");
+        let arguments = ["check", path(&file), &joined, "--passphrase-stdin"];
         assert_eq!(talc(&arguments, PASSPHRASE).status, status);
     }
 }
@@ -341,6 +349,11 @@ fn wrong_arguments() {
         vec!["check", "f", "--loud"],
         vec!["check", "f", "--ceiling"],
         vec!["check", "f", "--ceiling", "many"],
+        vec!["check", "f", "--ceiling="],
+        vec!["check", "f", "--ceiling=-1"],
+        vec!["check", "f", "--passphrase-stdin=yes"],
+        vec!["check", "f", "--help=yes"],
+        vec!["check", "f", "--ceilings=5"],
         vec!["check", "f", "--ceiling", "4294967296"],
         vec!["check", "f", "--ceiling", "-1"],
         vec!["check", "f", "--passphrase-file"],
@@ -363,12 +376,32 @@ fn no_terminal_to_ask() {
     assert!(ended.err.contains("no terminal"), "{}", ended.err);
 }
 
+/// What no passphrase opens is refused before one is asked for.
+#[test]
+fn refused_unasked() {
+    let folder = Folder::new("unasked");
+    let (mut tag, mut iter) = (safe(), safe());
+    tag[3] = b'4';
+    iter[36..40].copy_from_slice(&2047u32.to_le_bytes());
+    let cases = [(b"no safe".to_vec(), 1), (safe()[1..].to_vec(), 1), (tag, 4), (iter, 5)];
+    for (bytes, number) in cases {
+        let file = folder.put("a.psafe3", &bytes);
+        for command in ["check", "list", "fields"] {
+            // Without a terminal, asking would be 64.
+            let ended = talc(&[command, path(&file)], b"");
+            assert_eq!((ended.status, ended.out.as_str()), (number, ""), "{}", ended.err);
+            assert!(ended.err.contains(&format!("refused, {number}: ")), "{}", ended.err);
+        }
+    }
+}
+
 #[test]
 fn help_and_version() {
     for arguments in [vec!["--help"], vec!["-h"], vec!["check", "--help"]] {
         let ended = talc(&arguments, b"");
         assert_eq!(ended.status, 0);
         assert!(ended.out.contains("talc resave FILE OUT") && ended.out.contains("--ceiling N"));
+        assert!(ended.out.lines().all(|line| line.len() <= 80), "fits a terminal");
     }
     assert!(talc(&["--version"], b"").out.starts_with("talc "));
 }
@@ -406,6 +439,9 @@ mod terminal {
         fn grantpt(fd: i32) -> i32;
         fn unlockpt(fd: i32) -> i32;
         fn ptsname_r(fd: i32, name: *mut c_char, length: usize) -> i32;
+        fn ioctl(fd: i32, request: u64, argument: i32) -> i32;
+        fn tcgetattr(fd: i32, termios: *mut [u32; 64]) -> i32;
+        fn alarm(seconds: u32) -> u32;
     }
 
     const READ_WRITE_NO_CONTROL: i32 = 0o2 | 0o400;
@@ -421,9 +457,17 @@ mod terminal {
         }
     }
 
-    /// Types the line at talc's terminal; its status, and all that the terminal showed.
-    fn typed(file: &Path, line: &[u8]) -> (i32, String) {
+    /// How the terminal is set: what the C library's `struct termios` holds, and more room.
+    fn settings(terminal: &fs::File) -> [u32; 64] {
+        let mut termios = [0; 64];
+        assert_eq!(unsafe { tcgetattr(terminal.as_raw_fd(), &mut termios) }, 0);
+        termios
+    }
+
+    /// Types these keys at talc's terminal; its status, and all that the terminal showed.
+    fn typed(file: &Path, keys: &[u8]) -> (i32, String) {
         let (mut master, slave) = pair();
+        let before = settings(&master);
         let slave = fs::OpenOptions::new().read(true).write(true).open(slave).unwrap();
         let mut command = Command::new(env!("CARGO_BIN_EXE_talc"));
         command.args(["list", path(file)]).stdin(slave.try_clone().unwrap());
@@ -434,6 +478,8 @@ mod terminal {
                 setsid();
                 // Make it the session's terminal (TIOCSCTTY).
                 ioctl(fd, 0x540e, 0);
+                // A prompt that never ends is killed, and so fails.
+                alarm(20);
                 Ok(())
             })
         };
@@ -444,17 +490,14 @@ mod terminal {
         while !shown.ends_with(b"Passphrase: ") && master.read(&mut byte).unwrap_or(0) == 1 {
             shown.push(byte[0]);
         }
-        master.write_all(line).unwrap();
+        master.write_all(keys).unwrap();
         // At the end of the last process on it, a terminal gives an error.
         while master.read(&mut byte).unwrap_or(0) == 1 {
             shown.push(byte[0]);
         }
         let status = child.wait().unwrap().code().expect("no signal");
+        assert_eq!(settings(&master), before, "the terminal is as it was");
         (status, String::from_utf8(shown).unwrap())
-    }
-
-    extern "C" {
-        fn ioctl(fd: i32, request: u64, argument: i32) -> i32;
     }
 
     #[test]
@@ -467,7 +510,19 @@ mod terminal {
         assert!(!shown.contains("floor 2"), "{shown}");
         assert!(shown.contains("  worker  Floor.Lathes  2030-03-17"), "{shown}");
         assert_eq!(typed(&file, b"floor 3\n").0, 8);
-        assert_eq!(typed(&file, b"\x03\n").0, 77);
-        assert_eq!(typed(&file, b"\x04").0, 77);
+        assert_eq!(typed(&file, b"flo\x7f\x15floor 3\x7f2\n").0, 0, "rubbed out");
+    }
+
+    /// Interrupt, quit and end of file at once, in the midst of a line too; suspend at its end.
+    #[test]
+    fn gives_up() {
+        let folder = Folder::new("gives-up");
+        let file = folder.put("a.psafe3", &safe());
+        let keys: [&[u8]; 7] =
+            [b"\x03", b"flo\x03", b"\x1c", b"flo\x1c", b"\x04", b"flo\x04", b"flo\x1aor 2\n"];
+        for keys in keys {
+            let shown = "Passphrase: \r\ntalc: given up\r\n".to_string();
+            assert_eq!(typed(&file, keys), (77, shown), "{keys:?}");
+        }
     }
 }

@@ -84,14 +84,7 @@ fn saved_files_between_guards() {
         let (Ok(opened), _) = peer::safe::read(file, passphrase, u32::MAX, file.len()) else {
             continue;
         };
-        let parts = peer::safe::Parts {
-            passphrase: passphrase.clone(),
-            salt: file[4..36].try_into().unwrap(),
-            iter: saved.iter,
-            k: opened.k,
-            l: opened.l,
-            iv: file[136..152].try_into().unwrap(),
-        };
+        let parts = saved.parts(&opened);
         let case = Write { parts: &parts, body: &opened.body, room: file.len() };
         assert!(case.ours(random).memory == *file, "{}", saved.name);
     }

@@ -17,12 +17,12 @@ use Rattle.fields.specs.Walk.{walkOf, start, lenAt, kindAt, endWithData, fieldA
 use Rattle.fields.specs.declared.Cursor.{Cursor}
 use Rattle.fields.specs.declared.Field.{Field}
 use Rattle.fields.specs.declared.Walked.{Walked}
-use Rattle.fields.specs.declared.Walked.the-variants.{Took, Finished}
+use Rattle.fields.specs.declared.Walked.the-variants.{Took}
 use Rattle.fields.proofs.Walked as walked
-use Rattle.fields.proofs.Outcomes.{taken, took, forward, end-only}
+use Rattle.fields.proofs.Outcomes.{taken, took, forward}
 use Rattle.body.specs.Division.{joined}
 use Rattle.body.specs.Sections.{covered}
-use Rattle.body.specs.Decision.{storedAt, fits, fieldsFrom, fieldsOf, exactFrom, endsEmpty, wellFormed, coveredOf}
+use Rattle.body.specs.Decision.{storedAt, fits, fieldsFrom, fieldsOf, exactFrom, endsEmpty, wellFormed}
 use Rattle.body.proofs.Division.{from-fits, from-none, stored-long, data-long}
 use Rattle.body.proofs.Tests.{both}
 
@@ -130,9 +130,6 @@ coveredFrom s c = covered (fieldsFrom s (c .place))
 abbrev pub dataOf : List ℕ → Field → List ℕ
 dataOf s f = take (f .len) (drop (f .place + 5) s)
 
-pub covered-start : (s : List ℕ) → coveredFrom s start ≡ coveredOf s
-covered-start s = refl
-
 pub covered-took : (s : List ℕ) (c : Cursor) (f : Field) (d : Cursor) → walkOf s c ≡ Took f d → coveredFrom s c ≡ dataOf s f ++ coveredFrom s d
 covered-took s c f d e =
     ap covered (from-took s c f d e)
@@ -140,6 +137,3 @@ covered-took s c f d e =
 
 pub covered-stop : (s : List ℕ) (c : Cursor) → length s ≤ c .place → coveredFrom s c ≡ []
 covered-stop s c h = ap covered (from-end s c h)
-
-pub covered-end : (s : List ℕ) (c : Cursor) → walkOf s c ≡ Finished → coveredFrom s c ≡ []
-covered-end s c e = let p = end-only s c e in covered-stop s c (omega arith)

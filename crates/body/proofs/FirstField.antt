@@ -1,4 +1,4 @@
--- Whether the first field is Version, by what the walk at the start gives; and that with it the sections decide.
+-- Whether the first field is Version, by what the walk at the start gives; and that with it the sections decide: by the cases of the walk's answer.
 use Prim.Native.Nat.{ℕ, _+_}
 use mathlib.Core.Path.{_≡_, refl, sym, ap, _∙_}
 use mathlib.Core.Logic.{⊎-elim}

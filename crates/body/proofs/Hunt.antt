@@ -1,4 +1,4 @@
--- The search field by field finds what the definition finds record by record; and where the loop stands, what the rest gives is what the body gives.
+-- The search field by field finds what the definition finds record by record; and where the loop stands, what the rest gives is what the body gives: by recursion on the fields.
 use Prim.Native.Nat.{ℕ, zero, suc, _+_, _-_, _<_, _≤_}
 use mathlib.Core.Path.{_≡_, refl, sym, ap, _∙_}
 use mathlib.Core.Bool.{Bool, true, false, cond, _&&_, _||_}

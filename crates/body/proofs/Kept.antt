@@ -1,18 +1,23 @@
--- What does not decide acceptance: fill, the data of header fields but Version's, and in a record every field of another type than the three mandatory ones;
--- each because the clauses do not look there.
-use Prim.Native.Nat.{ℕ, suc, _+_, _-_, min}
+-- Fill, unknown types and unexpected lengths do not decide acceptance: field by field, what the clauses count and measure in each section stays the same.
+use Prim.Native.Nat.{ℕ, suc, _+_, _-_, _≤_, min}
 use mathlib.Core.Path.{_≡_, refl, sym, ap, ap₂, _∙_}
-use mathlib.Core.Bool.{Bool, true, false, cond, _&&_}
+use mathlib.Core.Logic.{_↔_}
+use mathlib.Core.Bool.{Bool, true, false, cond, not, _&&_, _||_, false≢true}
 use mathlib.Core.List.{List, [], _∷_, _++_}
 use native.Mathlib.Nat.{zero-add}
+use native.Mathlib.Omega.{arith}
 use lib.Dec.{eqb, leb}
 use lib.ListN.{length, length-take}
+use borrow.Author.Tests.{eqb-true, eq-eqb}
+use Rattle.words.specs.Numbers.{Bytes, more}
+use Rattle.words.proofs.ByteLaws.{bytes-append}
+use Rattle.words.proofs.NumberLaws.{bytes-sized}
 use Rattle.fields.specs.Stored.{Stored}
+use Rattle.fields.specs.Walk.{endWithData}
 use Rattle.fields.specs.Value.{among}
-use Rattle.fields.proofs.Outcomes.{neither}
-use Rattle.body.specs.Division.{Divides}
+use Rattle.body.specs.Division.{Each, Whole, joined, Divides}
 use Rattle.body.specs.Sections.{isEnd, push, runs, count, covered}
-use Rattle.body.specs.WellFormed.{onceInHeader}
+use Rattle.body.specs.WellFormed.{onceInHeader, WellFormed}
 use Rattle.body.specs.Decision.{
   all,
   endsEmpty,
@@ -31,6 +36,209 @@ use Rattle.body.specs.Decision.{
 use Rattle.body.specs.declared.Judged.{Judged}
 use Rattle.body.specs.declared.Judged.the-variants.{Counts, NotWellFormed}
 use Rattle.body.proofs.Division.{division, exact}
+use Rattle.body.proofs.Decided.{well-formed}
+
+-- the types that a clause counts, and those whose length it asks for: r, in a record
+abbrev pub counted : Bool → List ℕ
+counted false = onceInHeader
+counted true = 0x01 ∷ 0x03 ∷ 0x06 ∷ []
+
+abbrev pub measured : Bool → List ℕ
+measured false = []
+measured true = 0x01 ∷ 0x03 ∷ 0x06 ∷ []
+
+-- gs are the fields fs but for what no clause looks at: r, in a record
+pub data Kept : Bool → List Stored → List Stored → Type 0 where
+  nothing : {r : Bool} → Kept r [] []
+  -- END may have any fill
+  end : {r : Bool} {f g : Stored} {fs gs : List Stored} → isEnd f ≡ true → f .kind ≡ g .kind → length (f .content) ≡ length (g .content)
+      → Kept true fs gs → Kept r (f ∷ fs) (g ∷ gs)
+  -- a field may have any data and any fill, but in a record UUID, Title and Password keep their lengths
+  field : {r : Bool} {f g : Stored} {fs gs : List Stored} → isEnd f ≡ false → f .kind ≡ g .kind
+      → (among (f .kind) (measured r) ≡ true → length (f .content) ≡ length (g .content)) → Kept r fs gs → Kept r (f ∷ fs) (g ∷ gs)
+  -- there may be one field more of a type that no clause counts; in a record, before its END
+  other : {r : Bool} {g : Stored} {fs gs : List Stored} → isEnd g ≡ false → among (g .kind) (counted r) ≡ false → (r ≡ true → 1 ≤ count 0xff fs)
+      → Kept r fs gs → Kept r fs (g ∷ gs)
+
+-- the fields of type k are of a length that fits
+abbrev sizes : ℕ → (ℕ → Bool) → List Stored → Bool
+sizes k t fs = all (λ f. cond (eqb (f .kind) k) (t (length (f .content))) true) fs
+
+-- two sections that no clause tells apart
+record Like (r : Bool) (u v : List Stored) : Type 0 where
+  numbers : (k : ℕ) → among k (counted r) ≡ true → count k u ≡ count k v
+  lengths : (k : ℕ) (t : ℕ → Bool) → among k (measured r) ≡ true → sizes k t u ≡ sizes k t v
+
+like-field : {r : Bool} {u v : List Stored} (f g : Stored) → f .kind ≡ g .kind → (among (f .kind) (measured r) ≡ true → length (f .content) ≡ length (g .content))
+    → Like r u v → Like r (f ∷ u) (g ∷ v)
+like-field {r = r} f g e l h =
+    record {
+      numbers = λ k m. ap₂ (λ (i n : ℕ). cond (eqb i k) 1 0 + n) e (h .numbers k m);
+      lengths = λ k t m. ap₂ _&&_ (by k t m (eqb (f .kind) k) refl ∙ ap (λ (i : ℕ). cond (eqb i k) (t (length (g .content))) true) e) (h .lengths k t m);
+    }
+  where
+    by : (k : ℕ) (t : ℕ → Bool) → among k (measured r) ≡ true → (b : Bool) → eqb (f .kind) k ≡ b
+        → cond (eqb (f .kind) k) (t (length (f .content))) true ≡ cond (eqb (f .kind) k) (t (length (g .content))) true
+    by k t m true q = rw (l (ap (λ (i : ℕ). among i (measured r)) (eqb-true (f .kind) k q) ∙ m))
+    by k t m false q = rw q
+
+-- whose length is asked for is counted
+within : (r : Bool) (k : ℕ) → among k (measured r) ≡ true → among k (counted r) ≡ true
+within true k m = m
+within false k m = absurd (false≢true m)
+
+like-other : {r : Bool} {u v : List Stored} (g : Stored) → among (g .kind) (counted r) ≡ false → Like r u v → Like r u (g ∷ v)
+like-other {r = r} {v = v} g o h =
+    record {
+      numbers = λ k m. rw (is-not k m (eqb (g .kind) k) refl) (h .numbers k m ∙ sym (zero-add (count k v)));
+      lengths = λ k t m. rw (is-not k (within r k m) (eqb (g .kind) k) refl) (h .lengths k t m);
+    }
+  where
+    is-not : (k : ℕ) → among k (counted r) ≡ true → (b : Bool) → eqb (g .kind) k ≡ b → eqb (g .kind) k ≡ false
+    is-not k m true q = absurd (false≢true (sym o ∙ ap (λ (i : ℕ). among i (counted r)) (eqb-true (g .kind) k q) ∙ m))
+    is-not k m false q = q
+
+like-good : (r : Bool) (u v : List Stored) → Like r u v → cond r (goodRecord u) (goodHeader u) ≡ cond r (goodRecord v) (goodHeader v)
+unfolding goodRecord goodHeader
+like-good true u v h = rw (one-like 0x01 (λ n. eqb n 16) refl, one-like 0x03 (λ n. leb 1 n) refl, one-like 0x06 (λ n. leb 1 n) refl)
+  where
+    one-like : (k : ℕ) (t : ℕ → Bool) → among k (counted true) ≡ true → one k t u ≡ one k t v
+    one-like k t m = ap₂ (λ (n : ℕ) (b : Bool). eqb n 1 && b) (h .numbers k m) (h .lengths k t m)
+like-good false u v h = go onceInHeader (h .numbers)
+  where
+    or : (a b : Bool) → b ≡ true → (a || b) ≡ true
+    or true b e = refl
+    or false b e = e
+
+    go : (ts : List ℕ) → ((k : ℕ) → among k ts ≡ true → count k u ≡ count k v) → all (λ k. leb (count k u) 1) ts ≡ all (λ k. leb (count k v) 1) ts
+    go [] e = refl
+    go (t ∷ ts) e = ap₂ (λ (n : ℕ) (b : Bool). leb n 1 && b) (e t (rw (eq-eqb t t refl))) (go ts (λ k m. e k (or (eqb k t) (among k ts) m)))
+
+-- runs that no clause tells apart; of the last it asks only whether it is empty
+data Likes : Bool → List (List Stored) → List (List Stored) → Type 0 where
+  last : {r : Bool} {u v : List Stored} → (r && none u) ≡ (r && none v) → Likes r (u ∷ []) (v ∷ [])
+  next : {r : Bool} {u v : List Stored} {us vs : List (List Stored)} → Like r u v → Likes true us vs → Likes r (u ∷ us) (v ∷ vs)
+
+likes-field : {r : Bool} {us vs : List (List Stored)} (f g : Stored) → f .kind ≡ g .kind
+    → (among (f .kind) (measured r) ≡ true → length (f .content) ≡ length (g .content)) → Likes r us vs → Likes r (push f us) (push g vs)
+likes-field f g e l (last n) = last refl
+likes-field f g e l (next h n) = next (like-field f g e l h) n
+
+likes-other : {r : Bool} {us vs : List (List Stored)} (g : Stored) → among (g .kind) (counted r) ≡ false → (r ≡ true → 2 ≤ length us) → Likes r us vs → Likes r us (push g vs)
+likes-other {r = true} g o c (last n) = absurd (let z = c refl in omega arith)
+likes-other {r = false} g o c (last n) = last refl
+likes-other {r = true} g o c (next h n) = next (like-other g o h) n
+likes-other {r = false} g o c (next h n) = next (like-other g o h) n
+
+likes-good : {r : Bool} {us vs : List (List Stored)} → Likes r us vs → goodRuns r us ≡ goodRuns r vs
+unfolding goodRuns
+likes-good (last n) = n
+likes-good (next h l) = on _ _ _ h l (likes-good l)
+  where
+    on : (r : Bool) (u v : List Stored) {us vs : List (List Stored)} → Like r u v → Likes true us vs → goodRuns true us ≡ goodRuns true vs
+        → goodRuns r (u ∷ us) ≡ goodRuns r (v ∷ vs)
+    on r u v h (last n) e = ap₂ _&&_ (like-good r u v h) e
+    on r u v h (next g n) e = ap₂ _&&_ (like-good r u v h) e
+
+-- a run more than ENDs
+many-runs : (fs : List Stored) → length (runs fs) ≡ suc (count 0xff fs)
+unfolding runs
+many-runs [] = refl
+many-runs (f ∷ fs) = by (isEnd f) (runs fs) (many-runs fs)
+  where
+    by : (t : Bool) (us : List (List Stored)) → length us ≡ suc (count 0xff fs) → length (cond t ([] ∷ us) (push f us)) ≡ suc (cond t 1 0 + count 0xff fs)
+    by true us e = omega (arith, e)
+    by false [] e = absurd (omega arith)
+    by false (u ∷ us) e = omega (arith, e)
+
+same-end : (f g : Stored) (b : Bool) → f .kind ≡ g .kind → isEnd f ≡ b → isEnd g ≡ b
+same-end f g b k e = ap (λ (i : ℕ). eqb i 0xff) (sym k) ∙ e
+
+kept-runs : {r : Bool} {fs gs : List Stored} → Kept r fs gs → Likes r (runs fs) (runs gs)
+unfolding runs
+kept-runs nothing = last refl
+kept-runs (end {f = f} {g = g} e k l h) = rw (e, same-end f g true k e) (next (record { numbers = λ k m. refl; lengths = λ k t m. refl }) (kept-runs h))
+kept-runs (field {f = f} {g = g} e k l h) = rw (e, same-end f g false k e) (likes-field f g k l (kept-runs h))
+kept-runs (other {g = g} {fs = fs} e o c h) = rw e (likes-other g o (λ t. let z = c t in omega (arith, many-runs fs)) (kept-runs h))
+
+kept-ends : {r : Bool} {fs gs : List Stored} → Kept r fs gs → endsEmpty fs ≡ endsEmpty gs
+kept-ends nothing = refl
+kept-ends (end e k l h) = ap₂ _&&_ (ap₂ (λ (i n : ℕ). not (endWithData i n)) k l) (kept-ends h)
+kept-ends (field {f = f} {g = g} e k l h) = rw (e, same-end f g false k e) (kept-ends h)
+kept-ends (other e o c h) = rw e (kept-ends h)
+
+-- the clauses on the fields
+abbrev good : List Stored → Bool
+good fs = endsEmpty fs && (versionFirst fs && goodRuns false (runs fs))
+
+kept-good : (v w : Stored) (fs gs : List Stored) → v .kind ≡ w .kind → v .content ≡ w .content → Kept false (v ∷ fs) (w ∷ gs) → good (v ∷ fs) ≡ good (w ∷ gs)
+kept-good v w fs gs k d h =
+    let e : versionFirst (v ∷ fs) ≡ versionFirst (w ∷ gs) = ap₂ (λ (i : ℕ) (c : List ℕ). versionFirst (record { kind = i; content = c; fill = [] } ∷ [])) k d in
+    rw (kept-ends h, e, likes-good (kept-runs h))
+
+good-of : (s : List ℕ) (fs : List Stored) → Divides s fs → wellFormed s ≡ good fs
+unfolding wellFormed
+good-of s fs d = rw (exact s fs d, division s fs d)
+
+joined-fields : (fs : List Stored) → Each Whole fs → Bytes (joined fs)
+joined-fields [] w = Bytes.none
+joined-fields (f ∷ fs) w =
+    bytes-append (bytes-append (bytes-sized 4 (length (f .content)) .bytes) (more (w .0 .kind) (bytes-append (w .0 .content) (w .0 .fill)))) (joined-fields fs (w .1))
+
+whole-good : (fs : List Stored) → Each Whole fs → (good fs ≡ true) ↔ WellFormed (joined fs)
+whole-good fs w =
+    let e = good-of (joined fs) fs (record { whole = w; parts = refl }) in
+    let d = well-formed (joined fs) (joined-fields fs w) in
+    (λ h. d .0 (e ∙ h), λ h. sym e ∙ d .1 h)
+
+-- two bodies whose fields differ only where no clause looks, the first of them (Version) only in its fill, are both well formed or neither
+pub kept : (v w : Stored) (fs gs : List Stored) → Each Whole (v ∷ fs) → Each Whole (w ∷ gs) → v .kind ≡ w .kind → v .content ≡ w .content → Kept false (v ∷ fs) (w ∷ gs)
+    → WellFormed (joined (v ∷ fs)) ↔ WellFormed (joined (w ∷ gs))
+kept v w fs gs x y k d h =
+    let e = kept-good v w fs gs k d h in
+    let p = whole-good (v ∷ fs) x in
+    let q = whole-good (w ∷ gs) y in
+    (λ a. q .0 (sym e ∙ p .1 a), λ a. p .0 (e ∙ q .1 a))
+
+-- whether what comes after the fields is in a record, as it is once an END is passed; r: whether they are
+abbrev pub inRecord : Bool → List Stored → Bool
+inRecord r [] = r
+inRecord r (f ∷ a) = inRecord (cond (isEnd f) true r) a
+
+step : {r : Bool} {fs gs : List Stored} (f g : Stored) → f .kind ≡ g .kind → length (f .content) ≡ length (g .content) → Kept (cond (isEnd f) true r) fs gs
+    → Kept r (f ∷ fs) (g ∷ gs)
+step {r = r} {fs = fs} {gs = gs} f g k l h = by (isEnd f) refl h
+  where
+    by : (b : Bool) → isEnd f ≡ b → Kept (cond b true r) fs gs → Kept r (f ∷ fs) (g ∷ gs)
+    by true e h = end e k l h
+    by false e h = field e k (λ m. l) h
+
+same : (r : Bool) (fs : List Stored) → Kept r fs fs
+same r [] = nothing
+same r (f ∷ fs) = step f f refl refl (same (cond (isEnd f) true r) fs)
+
+past : (r : Bool) (a b c : List Stored) → Kept (inRecord r a) b c → Kept r (a ++ b) (a ++ c)
+past r [] b c h = h
+past r (f ∷ a) b c h = step f f refl refl (past (cond (isEnd f) true r) a b c h)
+
+between : (a b : List Stored) (f : Stored) → Each Whole (a ++ b) → Whole f → Each Whole (a ++ (f ∷ b))
+between [] b f w x = (x, w)
+between (g ∷ a) b f w x = (w .0, between a b f (w .1) x)
+
+-- a body of the fields v (Version), a and b
+module _ (v : Stored) (a b : List Stored) (w : Each Whole (v ∷ (a ++ b))) where
+  -- unknown types are kept: between a and b may stand one field more, of any length, in the header of a type that may repeat, in a record of another than 01, 03 and 06
+  pub other-kept : (f : Stored) → Whole f → isEnd f ≡ false → among (f .kind) (counted (inRecord false (v ∷ a))) ≡ false → (inRecord false (v ∷ a) ≡ true → 1 ≤ count 0xff b)
+      → WellFormed (joined (v ∷ (a ++ b))) ↔ WellFormed (joined (v ∷ (a ++ (f ∷ b))))
+  other-kept f x e o n =
+      kept v v (a ++ b) (a ++ (f ∷ b)) w (between (v ∷ a) b f w x) refl refl (past false (v ∷ a) b (f ∷ b) (other e o n (same (inRecord false (v ∷ a)) b)))
+
+  -- any other known field of an unexpected length is kept too: between a and b any data may stand, but END's, and in a record those of 01, 03 and 06
+  pub length-kept : (f g : Stored) → Whole f → Whole g → f .kind ≡ g .kind → isEnd f ≡ false → among (f .kind) (measured (inRecord false (v ∷ a))) ≡ false
+      → WellFormed (joined (v ∷ (a ++ (f ∷ b)))) ↔ WellFormed (joined (v ∷ (a ++ (g ∷ b))))
+  length-kept f g x y k e o =
+      kept v v (a ++ (f ∷ b)) (a ++ (g ∷ b)) (between (v ∷ a) b f w x) (between (v ∷ a) b g w y) refl refl
+      (past false (v ∷ a) (f ∷ b) (g ∷ b) (field e k (λ m. absurd (false≢true (sym o ∙ m))) (same (inRecord false (v ∷ a)) b)))
 
 -- a field without its fill
 abbrev pub bare : Stored → Stored
@@ -44,21 +252,17 @@ abbrev strips : List (List Stored) → List (List Stored)
 strips [] = []
 strips (u ∷ us) = strip u ∷ strips us
 
-ends-bare : (fs : List Stored) → endsEmpty (strip fs) ≡ endsEmpty fs
-ends-bare [] = refl
-ends-bare (f ∷ fs) = rw (ends-bare fs)
+kept-bare : (r : Bool) (fs : List Stored) → Kept r (strip fs) fs
+kept-bare r [] = nothing
+kept-bare r (f ∷ fs) = step (bare f) f refl refl (kept-bare (cond (isEnd f) true r) fs)
 
-version-bare : (fs : List Stored) → versionFirst (strip fs) ≡ versionFirst fs
-version-bare [] = refl
-version-bare (f ∷ fs) = refl
+good-bare : (fs : List Stored) → good (strip fs) ≡ good fs
+good-bare [] = refl
+good-bare (f ∷ fs) = kept-good (bare f) f (strip fs) fs refl refl (kept-bare false (f ∷ fs))
 
 covered-bare : (fs : List Stored) → covered (strip fs) ≡ covered fs
 covered-bare [] = refl
 covered-bare (f ∷ fs) = ap (_++_ (f .content)) (covered-bare fs)
-
-count-bare : (k : ℕ) (fs : List Stored) → count k (strip fs) ≡ count k fs
-count-bare k [] = refl
-count-bare k (f ∷ fs) = ap (_+_ (cond (eqb (f .kind) k) 1 0)) (count-bare k fs)
 
 push-bare : (f : Stored) (us : List (List Stored)) → push (bare f) (strips us) ≡ strips (push f us)
 push-bare f [] = refl
@@ -73,36 +277,6 @@ runs-bare (f ∷ fs) = by (isEnd f) (runs-bare fs)
         → cond t ([] ∷ runs (strip fs)) (push (bare f) (runs (strip fs))) ≡ strips (cond t ([] ∷ runs fs) (push f (runs fs)))
     by true h = ap (_∷_ []) h
     by false h = ap (push (bare f)) h ∙ push-bare f (runs fs)
-
-once-bare : (ts : List ℕ) (fs : List Stored) → all (λ k. leb (count k (strip fs)) 1) ts ≡ all (λ k. leb (count k fs) 1) ts
-once-bare [] fs = refl
-once-bare (t ∷ ts) fs = ap₂ (λ (n : ℕ) (b : Bool). leb n 1 && b) (count-bare t fs) (once-bare ts fs)
-
-header-bare : (fs : List Stored) → goodHeader (strip fs) ≡ goodHeader fs
-unfolding goodHeader
-header-bare fs = once-bare onceInHeader fs
-
-sizes-bare : (k : ℕ) (t : ℕ → Bool) (fs : List Stored)
-    → all (λ f. cond (eqb (f .kind) k) (t (length (f .content))) true) (strip fs) ≡ all (λ f. cond (eqb (f .kind) k) (t (length (f .content))) true) fs
-sizes-bare k t [] = refl
-sizes-bare k t (f ∷ fs) = rw (sizes-bare k t fs)
-
-one-bare : (k : ℕ) (t : ℕ → Bool) (fs : List Stored) → one k t (strip fs) ≡ one k t fs
-one-bare k t fs = ap₂ (λ (n : ℕ) (b : Bool). eqb n 1 && b) (count-bare k fs) (sizes-bare k t fs)
-
-record-bare : (fs : List Stored) → goodRecord (strip fs) ≡ goodRecord fs
-unfolding goodRecord
-record-bare fs = rw (one-bare 0x01 (λ n. eqb n 16) fs, one-bare 0x03 (λ n. leb 1 n) fs, one-bare 0x06 (λ n. leb 1 n) fs)
-
-none-bare : (fs : List Stored) → none (strip fs) ≡ none fs
-none-bare [] = refl
-none-bare (f ∷ fs) = refl
-
-good-bare : (r : Bool) (us : List (List Stored)) → goodRuns r (strips us) ≡ goodRuns r us
-unfolding goodRuns
-good-bare r [] = refl
-good-bare r (u ∷ []) = ap (_&&_ r) (none-bare u)
-good-bare r (u ∷ v ∷ us) = rw (record-bare u, header-bare u, good-bare true (v ∷ us))
 
 long-bare : (fs : List Stored) → length (strip fs) ≡ length fs
 long-bare [] = refl
@@ -125,15 +299,14 @@ records-bare (u ∷ us) =
 
 -- the judgement on fields that divide the body
 abbrev judgedBy : List Stored → Judged
-judgedBy fs =
-    cond (endsEmpty fs && (versionFirst fs && goodRuns false (runs fs))) (Counts (length (headerIn (runs fs))) (length (recordsIn (runs fs)))) NotWellFormed
+judgedBy fs = cond (good fs) (Counts (length (headerIn (runs fs))) (length (recordsIn (runs fs)))) NotWellFormed
 
 judged-bare : (fs : List Stored) → judgedBy (strip fs) ≡ judgedBy fs
-judged-bare fs = rw (ends-bare fs, version-bare fs, runs-bare fs, good-bare false (runs fs), headers-bare (runs fs), records-bare (runs fs))
+judged-bare fs = rw (good-bare fs, runs-bare fs, headers-bare (runs fs), records-bare (runs fs))
 
 judged-by : (s : List ℕ) (fs : List Stored) → Divides s fs → judgedOf s ≡ judgedBy fs
-unfolding judgedOf wellFormed
-judged-by s fs d = rw (exact s fs d, division s fs d)
+unfolding judgedOf
+judged-by s fs d = rw (good-of s fs d, division s fs d)
 
 -- two bodies whose fields differ in their fill only are judged alike, and their HMACs cover the same bytes
 pub fill-kept : (s t : List ℕ) (fs gs : List Stored) → Divides s fs → Divides t gs → strip fs ≡ strip gs
@@ -142,51 +315,3 @@ fill-kept s t fs gs d e h = (
   judged-by s fs d ∙ sym (judged-bare fs) ∙ ap judgedBy h ∙ judged-bare gs ∙ sym (judged-by t gs e),
   ap covered (division s fs d) ∙ sym (covered-bare fs) ∙ ap covered h ∙ covered-bare gs ∙ ap covered (sym (division t gs e)),
 )
-
--- a field of type k does not change the counts of other types
-count-other : (k : ℕ) (a : List Stored) (f : Stored) (b : List Stored) → eqb (f .kind) k ≡ false → count k (a ++ (f ∷ b)) ≡ count k (a ++ b)
-count-other k [] f b h = rw h (zero-add (count k b))
-count-other k (g ∷ a) f b h = ap (_+_ (cond (eqb (g .kind) k) 1 0)) (count-other k a f b h)
-
-once-other : (ts : List ℕ) (a : List Stored) (f : Stored) (b : List Stored) → among (f .kind) ts ≡ false
-    → all (λ k. leb (count k (a ++ (f ∷ b))) 1) ts ≡ all (λ k. leb (count k (a ++ b)) 1) ts
-once-other [] a f b h = refl
-once-other (t ∷ ts) a f b h =
-    let n = neither (eqb (f .kind) t) (among (f .kind) ts) h in
-    ap₂ (λ (m : ℕ) (c : Bool). leb m 1 && c) (count-other t a f b (n .0)) (once-other ts a f b (n .1))
-
--- a header may have any field of a type that may repeat, of any length, anywhere
-pub header-other : (a : List Stored) (f : Stored) (b : List Stored) → among (f .kind) onceInHeader ≡ false → goodHeader (a ++ (f ∷ b)) ≡ goodHeader (a ++ b)
-unfolding goodHeader
-header-other a f b h = once-other onceInHeader a f b h
-
--- the data of its fields do not matter, so neither do their lengths
-pub header-data : (a : List Stored) (f : Stored) (b : List Stored) (d : List ℕ)
-    → goodHeader (a ++ (record { kind = f .kind; content = d; fill = f .fill } ∷ b)) ≡ goodHeader (a ++ (f ∷ b))
-unfolding goodHeader
-header-data a f b d = go onceInHeader
-  where
-    counts : (k : ℕ) (a : List Stored) → count k (a ++ (record { kind = f .kind; content = d; fill = f .fill } ∷ b)) ≡ count k (a ++ (f ∷ b))
-    counts k [] = refl
-    counts k (g ∷ a) = ap (_+_ (cond (eqb (g .kind) k) 1 0)) (counts k a)
-
-    go : (ts : List ℕ) → all (λ k. leb (count k (a ++ (record { kind = f .kind; content = d; fill = f .fill } ∷ b))) 1) ts ≡ all (λ k. leb (count k (a ++ (f ∷ b))) 1) ts
-    go [] = refl
-    go (t ∷ ts) = ap₂ (λ (m : ℕ) (c : Bool). leb m 1 && c) (counts t a) (go ts)
-
-sizes-other : (k : ℕ) (t : ℕ → Bool) (a : List Stored) (f : Stored) (b : List Stored) → eqb (f .kind) k ≡ false
-    → all (λ f. cond (eqb (f .kind) k) (t (length (f .content))) true) (a ++ (f ∷ b)) ≡ all (λ f. cond (eqb (f .kind) k) (t (length (f .content))) true) (a ++ b)
-sizes-other k t [] f b h = rw h
-sizes-other k t (g ∷ a) f b h = rw (sizes-other k t a f b h)
-
-one-other : (k : ℕ) (t : ℕ → Bool) (a : List Stored) (f : Stored) (b : List Stored) → eqb (f .kind) k ≡ false → one k t (a ++ (f ∷ b)) ≡ one k t (a ++ b)
-one-other k t a f b h = ap₂ (λ (n : ℕ) (c : Bool). eqb n 1 && c) (count-other k a f b h) (sizes-other k t a f b h)
-
--- a record may have any field of another type than 01, 03 and 06, of any length, anywhere
-pub record-other : (a : List Stored) (f : Stored) (b : List Stored) → among (f .kind) (0x01 ∷ 0x03 ∷ 0x06 ∷ []) ≡ false → goodRecord (a ++ (f ∷ b)) ≡ goodRecord (a ++ b)
-unfolding goodRecord
-record-other a f b h =
-    let x = neither (eqb (f .kind) 0x01) (among (f .kind) (0x03 ∷ 0x06 ∷ [])) h in
-    let y = neither (eqb (f .kind) 0x03) (among (f .kind) (0x06 ∷ [])) (x .1) in
-    let z = neither (eqb (f .kind) 0x06) false (y .1) in
-    rw (one-other 0x01 (λ n. eqb n 16) a f b (x .0), one-other 0x03 (λ n. leb 1 n) a f b (y .0), one-other 0x06 (λ n. leb 1 n) a f b (z .0))

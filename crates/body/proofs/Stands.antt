@@ -1,4 +1,4 @@
--- Where the pass over the sections stands: the fields of the present section, what the code keeps of them, and that the verdict on the rest is the verdict on the body.
+-- Where the pass over the sections stands: the fields of the present section, what the code keeps of them, and that the verdict on the rest is the verdict on the body: a turn of the loop is a step of the verdict.
 use Prim.Native.Nat.{ℕ, _+_, _%_, _<_, _≤_}
 use mathlib.Core.Path.{_≡_, refl, sym, ap, ap₂, _∙_}
 use mathlib.Core.Logic.{⊎-elim}

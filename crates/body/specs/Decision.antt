@@ -1,4 +1,4 @@
--- The same as functions of the bytes: the fields of a body, whether it is well formed, what its HMAC covers, its counts. That `wellFormed` holds exactly
+-- The well-formed body (WellFormed.antt) as functions of the bytes: the fields of a body, whether it is well formed, what its HMAC covers, its counts. That `wellFormed` holds exactly
 -- of the well-formed bodies, and the rest exactly of their fields, is shown in proofs/Decided.antt.
 use Prim.Native.Nat.{ℕ, zero, suc, _+_, _-_}
 use mathlib.Core.Bool.{Bool, true, false, cond, not, _&&_}

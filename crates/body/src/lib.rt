@@ -1,5 +1,4 @@
 // The well-formed body: judging it, and finding a record in it. Both go by the one walk.
-use fields::Cursor;
 use fields::Value;
 use fields::Walked;
 
@@ -25,6 +24,7 @@ pub enum Sought {
     NotWellFormed,
 }
 
+// A struct, so that a count can join it.
 pub struct Found {
     pub sought: Sought,
 }

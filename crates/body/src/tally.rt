@@ -3,7 +3,7 @@ ghost use mathlib.Core.Path.{_≡_};
 ghost use Rattle.fields.specs.Value.{among};
 ghost use Rattle.body.specs.Tally.{once, lengthFits, emptySection, stillFine, noted, passes, stepped, headerField, recordEnd, firstPlace};
 
-// Which of the types that may occur once were seen, whether all is right so far, and whether the section has a field.
+// Which of the types that may occur once were seen (13 is the highest), whether all is right so far, and whether the section has a field.
 pub struct Section {
     pub seen: [bool; 20],
     pub fine: bool,

@@ -1,19 +1,17 @@
 -- What the calls leave in a memory of n whole blocks: the n blocks enciphered or deciphered, and the count n past that of the earlier stage.
-use Prim.Native.Nat.{ℕ, _+_, _*_, _/_, _%_, _^_, _<_, _≤_}
+use Prim.Native.Nat.{ℕ, _*_, _/_, _%_, _^_, _<_, _≤_}
 use mathlib.Core.Path.{_≡_, refl, sym, ap, ap₂, _∙_}
 use mathlib.Core.Bool.{Bool, true, false, cond}
 use mathlib.Core.List.{List, [], _++_, append-nil}
-use native.Mathlib.Nat.{mod-eq-of-lt}
 use native.Mathlib.Omega.{arith}
 use lib.Dec.{leb}
 use borrow.Author.Tests.{eq-eqb, ne-eqb, le-leb, lt-leb}
 use lib.ListN.{length, take, drop, drop-of-length-le}
 use lib.Seq.{take-all, take-at, drop-at}
 use Rattle.words.specs.Slices.{copied}
-use Rattle.chain.specs.Modes.{encipher, decipher}
+use Rattle.chain.specs.Modes.{encipher}
 use Rattle.chain.specs.Opening.{opening, step, run}
 use Rattle.chain.specs.Memory.{blocksIn, sealed, sealedInto, opened, Handed}
-use Rattle.chain.proofs.StepLaws.{opened-done, opened-count, opened-rest}
 
 pub whole : (n : ℕ) (l : List ℕ) → length l ≡ 16 * n → blocksIn l ≡ n
 unfolding blocksIn
@@ -21,9 +19,6 @@ whole n l h =
     let p : length l % 16 ≡ 0 = omega arith in
     let q : length l / 16 ≡ n = omega arith in
     rw (eq-eqb (length l % 16) 0 p) q
-
-pub blocks-whole : (l : List ℕ) → length l % 16 ≡ 0 → blocksIn l ≡ length l / 16
-blocks-whole l h = whole (length l / 16) l (omega arith)
 
 pub blocks-none : (l : List ℕ) → (length l % 16 ≡ 0 → ⊥) → blocksIn l ≡ 0
 unfolding blocksIn
@@ -82,18 +77,6 @@ module _ (e : List ℕ → List ℕ → List ℕ) where
       ∙ sym (sealed-into n p l to k h)
 
 module _ (d : List ℕ → List ℕ → List ℕ) where
-  pub opened-text : (n : ℕ) (p l : List ℕ) (c : ℕ) → length l ≡ 16 * n → opened d p l c .done ++ opened d p l c .rest ≡ decipher d n p l
-  unfolding opened
-  opened-text n p l c h =
-      rw (whole n l h, opened-done d n p l c, opened-rest d n p l c, over n l h) (append-nil (decipher d n p l))
-
-  pub handed-text : (n : ℕ) (p l : List ℕ) (c : ℕ) {w : List ℕ} {r : ℕ} → length l ≡ 16 * n → Handed (opened d p l c) w r → w ≡ decipher d n p l
-  handed-text n p l c h g = g .text ∙ opened-text n p l c h
-
-  pub handed-blocks : (n : ℕ) (p l : List ℕ) (c : ℕ) {w : List ℕ} {r : ℕ} → length l ≡ 16 * n → c + n < 2 ^ 64 → Handed (opened d p l c) w r → r ≡ c + n
-  unfolding opened
-  handed-blocks n p l c h k g = g .blocks ∙ rw (whole n l h, opened-count d n p l c) (mod-eq-of-lt k)
-
   -- as the code goes: refused, or all blocks done
   pub refused-open : (p l : List ℕ) (c : ℕ) → (length l % 16 ≡ 0 → ⊥) → c < 2 ^ 64 → Handed (opened d p l c) l c
   unfolding opened run opening

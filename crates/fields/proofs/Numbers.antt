@@ -2,16 +2,19 @@
 use Prim.Native.Nat.{ℕ, _+_}
 use mathlib.Core.Path.{_≡_, refl, sym, ap, _∙_}
 use mathlib.Core.Bool.{Bool, true, false, cond}
-use mathlib.Core.List.{List}
+use mathlib.Core.List.{List, [], _∷_}
 use lib.Dec.{eqb}
 use lib.ListN.{length, getD}
 use Rattle.fields.specs.Stored.{Stored, roomOf}
-use Rattle.fields.specs.Walk.{walkOf, walkNumber, misplaced, broken, endWithData, fieldAt, after}
+use Rattle.fields.specs.Value.{valueNumbers}
+use Rattle.fields.specs.Walk.{walkOf, walkNumber, walkValues, misplaced, broken, endWithData, fieldAt, after}
 use Rattle.fields.specs.Append.{appendOf, appendNumber, appendValues, badFill, noRoom, bufferAfter}
 use Rattle.fields.specs.declared.Cursor.{Cursor}
 use Rattle.fields.specs.declared.Field.{Field}
 use Rattle.fields.specs.declared.Walked.{Walked}
 use Rattle.fields.specs.declared.Walked.the-variants as walked
+use Rattle.fields.specs.declared.value.Value.{Value}
+use Rattle.fields.specs.declared.value.Value.the-variants as value
 use Rattle.fields.specs.declared.store.Appended.{Appended}
 use Rattle.fields.specs.declared.store.Appended.the-variants as appended
 
@@ -44,6 +47,56 @@ append-numbers b p f = by (misplaced b p) (endWithData (f .kind) (length (f .con
     by false false false true q = refl
     by false false false false q = refl
 
+-- the value of such numbers, and the answer of a walk with a number and values
+abbrev valueBy : ℕ → ℕ → ℕ → Value
+valueBy k a b =
+    cond (eqb k 0) value.Empty
+    (cond (eqb k 1) value.End
+    (cond (eqb k 2) (value.Uuid a b)
+    (cond (eqb k 3) (value.Time a)
+    (cond (eqb k 4) (value.Number a)
+    (cond (eqb k 5) (value.Flag (eqb a 1))
+    (cond (eqb k 6) value.Text
+    (cond (eqb k 7) value.BadText
+    (cond (eqb k 8) value.Misshapen value.Opaque))))))))
+
+value-said : (v : Value) → valueBy (getD (valueNumbers v) 0 0) (getD (valueNumbers v) 1 0) (getD (valueNumbers v) 2 0) ≡ v
+value-said value.Empty = refl
+value-said value.End = refl
+value-said (value.Uuid a b) = refl
+value-said (value.Time t) = refl
+value-said (value.Number n) = refl
+value-said (value.Flag true) = refl
+value-said (value.Flag false) = refl
+value-said value.Text = refl
+value-said value.BadText = refl
+value-said value.Misshapen = refl
+value-said value.Opaque = refl
+
+abbrev tookBy : List ℕ → Walked
+tookBy [] = walked.Finished
+tookBy (p ∷ l) =
+    walked.Took
+    (record { kind = getD l 1 0; place = getD l 2 0; len = getD l 3 0; value = valueBy (getD l 4 0) (getD l 5 0) (getD l 6 0) })
+    (record { place = p; «in_record» = eqb (getD l 0 0) 1 })
+
+abbrev walkedBy : ℕ → List ℕ → Walked
+walkedBy n l = cond (eqb n 11) walked.Misplaced (cond (eqb n 14) walked.Broken (tookBy l))
+
+walk-said : (r : Walked) → walkedBy (walkNumber r) (walkValues r) ≡ r
+walk-said (walked.Took f d) = rw (value-said (f .value), marked (d .«in_record»))
+  where
+    marked : (b : Bool) → eqb (cond b 1 0) 1 ≡ b
+    marked true = refl
+    marked false = refl
+walk-said walked.Finished = refl
+walk-said walked.Misplaced = refl
+walk-said walked.Broken = refl
+
+-- number and values tell the answer
+pub walk-told : (r r′ : Walked) → walkNumber r ≡ walkNumber r′ → walkValues r ≡ walkValues r′ → r ≡ r′
+walk-told r r′ n v = sym (walk-said r) ∙ ap (λ (k : ℕ). walkedBy k (walkValues r)) n ∙ ap (walkedBy (walkNumber r′)) v ∙ walk-said r′
+
 -- the answer of an append with a number and values
 abbrev appendedBy : ℕ → List ℕ → Appended
 appendedBy n v =
@@ -59,7 +112,6 @@ append-said appended.EndWithData = refl
 append-said appended.BadFill = refl
 append-said appended.NoRoom = refl
 
--- number and values tell the answer
 pub append-told : (r r′ : Appended) → appendNumber r ≡ appendNumber r′ → appendValues r ≡ appendValues r′ → r ≡ r′
 append-told r r′ n v =
     sym (append-said r) ∙ ap (λ (k : ℕ). appendedBy k (appendValues r)) n ∙ ap (appendedBy (appendNumber r′)) v ∙ append-said r′

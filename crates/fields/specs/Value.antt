@@ -80,3 +80,16 @@ valueOf r k d =
     cond (eqb k 0xff) Value.End
     (cond (eqb (length d) 0) Value.Empty
     (shapedOf (cond r (recordShape k) (headerShape k)) d))
+
+-- a value as numbers: its kind, by its place in this list, and what it holds
+abbrev pub valueNumbers : Value → List ℕ
+valueNumbers Value.Empty = 0 ∷ 0 ∷ 0 ∷ []
+valueNumbers Value.End = 1 ∷ 0 ∷ 0 ∷ []
+valueNumbers (Value.Uuid a b) = 2 ∷ a ∷ b ∷ []
+valueNumbers (Value.Time t) = 3 ∷ t ∷ 0 ∷ []
+valueNumbers (Value.Number n) = 4 ∷ n ∷ 0 ∷ []
+valueNumbers (Value.Flag t) = 5 ∷ cond t 1 0 ∷ 0 ∷ []
+valueNumbers Value.Text = 6 ∷ 0 ∷ 0 ∷ []
+valueNumbers Value.BadText = 7 ∷ 0 ∷ 0 ∷ []
+valueNumbers Value.Misshapen = 8 ∷ 0 ∷ 0 ∷ []
+valueNumbers Value.Opaque = 9 ∷ 0 ∷ 0 ∷ []

@@ -1,12 +1,12 @@
 -- The walk: the field at a cursor and the cursor after it, or the end, or a refusal (document 01, "Fields and the well-formed body" and "Numbers of refusal").
 use Prim.Native.Nat.{ℕ, _+_, _-_, _%_}
 use mathlib.Core.Bool.{Bool, false, cond, not, _||_, _&&_}
-use mathlib.Core.List.{List}
+use mathlib.Core.List.{List, [], _∷_}
 use lib.Dec.{ltb, eqb}
 use lib.ListN.{length, getD, take, drop}
 use Rattle.words.specs.Numbers.{numberLow}
 use Rattle.fields.specs.Stored.{roomOf}
-use Rattle.fields.specs.Value.{valueOf}
+use Rattle.fields.specs.Value.{valueOf, valueNumbers}
 use Rattle.fields.specs.declared.Cursor.{Cursor}
 use Rattle.fields.specs.declared.Field.{Field}
 use Rattle.fields.specs.declared.Walked.{Walked}
@@ -62,9 +62,15 @@ walkOf s c =
     (cond (broken s (c .place)) Broken
     (Took (fieldAt s c) (after s c))))
 
--- the number of an answer; 0 where nothing is refused
+-- the number of an answer, 0 where nothing is refused, and its values: the next cursor, and the field's type, place, length and value
 abbrev pub walkNumber : Walked → ℕ
 walkNumber (Took f d) = 0
 walkNumber Finished = 0
 walkNumber Misplaced = 11
 walkNumber Broken = 14
+
+abbrev pub walkValues : Walked → List ℕ
+walkValues (Took f d) = d .place ∷ cond (d .«in_record») 1 0 ∷ f .kind ∷ f .place ∷ f .len ∷ valueNumbers (f .value)
+walkValues Finished = []
+walkValues Misplaced = []
+walkValues Broken = []

@@ -23,6 +23,7 @@ pub struct Field {
     pub value: Value,
 }
 
+// Misplaced is refusal 11, Broken 14.
 pub enum Walked {
     Took(Field, Cursor),
     Finished,
@@ -40,7 +41,7 @@ pub fn start() -> Cursor
     }
 }
 
-// The fill that a field with so many bytes of data needs.
+// The fill that a field with so many bytes of data needs: 11 bytes of data fill a block, and 27 is 11 + 16.
 pub fn fill_for(len: usize) -> usize
     ensures { λ r. ⌜ r ≡ fillOf len ⌝ }
 {

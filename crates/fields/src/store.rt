@@ -7,7 +7,7 @@ ghost use Rattle.words.specs.Numbers.{bytesLow};
 ghost use Rattle.fields.specs.Stored.{stored, bytesOf};
 ghost use Rattle.fields.specs.Append.{appendOf, bufferAfter};
 
-// The next place, or why the field was refused.
+// The next place, or why the field was refused: 11, 13, 12, 3.
 pub enum Appended {
     Next(usize),
     Misplaced,
@@ -41,6 +41,7 @@ fn write(part: &mut [u8], kind: u8, content: &[u8], fill: &[u8])
     words::slices::copy(&mut part[at..end], fill);
 }
 
+// A field at a place of the buffer; refused, nothing changes.
 pub fn append(buf: &mut [u8], place: usize, kind: u8, content: &[u8], fill: &[u8]) -> Appended
     ensures answer { λ r. ⌜ r ≡ appendOf (now (buf .entry)) place (stored kind (now (content .entry)) (now (fill .entry))) ⌝ }
     ensures memory { λ r. ⌜ now (buf .exit) ≡ bufferAfter r (now (buf .entry)) place (stored kind (now (content .entry)) (now (fill .entry))) ⌝ }

@@ -20,7 +20,7 @@ use Rattle.chain.proofs.StepLaws.{opened-done}
 use Rattle.file.specs.Layout.{Parts, split, join, listed, tag, marker, firstMarker}
 use Rattle.file.specs.Edition.{Edition, Stretched, Laws}
 use Rattle.file.specs.Description.{IsSafe, wrapped, cbc, partsOf, fileOf}
-use Rattle.file.specs.Reading.{Report, accepted, badLength, keysOpened, bodyOpened, keyK, keyL, bodyOf, checked, readingOf}
+use Rattle.file.specs.Reading.{Answers, Report, accepted, badLength, keysOpened, bodyOpened, keyK, keyL, bodyOf, checked, readingOf}
 use Rattle.file.proofs.Glue.{same-of, same-is}
 use Rattle.file.proofs.PartLaws.{sizes, join-split, split-sizes, split-join, join-length, Lengths, lengths, all-lengths, tail-split, bytes-split, iter-back, iter-again, iter-small}
 use Rattle.file.proofs.Markers.{marker-found, marker-sized, marker-first, clear-each, each-clear}
@@ -40,13 +40,6 @@ good-length n h = go (ltb n 232) (ltb 4194304 n) (eqb ((n - 200) % 16) 0) refl r
 pub is-length : (n : ℕ) → 232 ≤ n → n ≤ 4194304 → (n - 200) % 16 ≡ 0 → badLength n ≡ false
 unfolding badLength
 is-length n a b c = rw (le-ltb n 232 a, le-ltb 4194304 n b, eq-eqb ((n - 200) % 16) 0 c)
-
--- what a reading answers
-pub record Answers (r : Report) (K L body : List ℕ) : Type 0 where
-  pub accepts : r .number ≡ 0
-  pub givesK : r .keyK ≡ K
-  pub givesL : r .keyL ≡ L
-  pub givesBody : r .body ≡ body
 
 module _ (E : Edition) (X : Laws E) where
   -- what was deciphered

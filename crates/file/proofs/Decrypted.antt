@@ -1,4 +1,4 @@
--- Unless a reading ends in 1 to 8, every block of the body was decrypted and counted, whether it is accepted or not: by the laws of the steps.
+-- Past 1 to 7 the state that the last step leaves is the whole body decrypted, and its count that of all blocks: by the laws of the steps.
 use Prim.Native.Nat.{ℕ, _+_, _-_, _*_, _/_}
 use mathlib.Core.Path.{_≡_, sym, _∙_}
 use mathlib.Core.List.{List, []}

@@ -1,5 +1,5 @@
--- How a reading ends: at the first early test that fails, at the check, at the body, or accepted; and what each end says. By the table of tests, and
--- then by the tests 8 and 9.
+-- How a reading ends: at the first early test that fails, at the check, at the body, or accepted; how a writing ends; and what each end says. By the
+-- tables of tests, and of a reading then by the tests 8 and 9.
 use Prim.Native.Nat.{ℕ, _-_, _/_, _≤_}
 use mathlib.Core.Path.{_≡_, refl, sym, ap, _∙_, subst}
 use mathlib.Core.Logic.{_↔_}
@@ -15,10 +15,10 @@ use Rattle.words.specs.Slices.{zeros}
 use Rattle.chain.specs.Opening.{Opening}
 use Rattle.file.specs.Layout.{Parts, split, differ}
 use Rattle.file.specs.Refusals.{Test, First, here, later}
+use Rattle.file.proofs.Tables.{between, Decided, passes, stops, decide, first-stops, first-between}
 use Rattle.file.specs.Edition.{Edition, Stretched}
 use Rattle.file.specs.Reading.{Report, refused, accepted, workspaceOf, earlyTests, keyK, keyL, bodyOf, checked, readingOf}
 use Rattle.file.specs.Writing.{Writing, unwritten, earlyWriteTests, writeTests, written, writingOf}
-use Rattle.file.proofs.Tables.{Decided, passes, stops, decide, first-stops, first-between}
 use Rattle.file.proofs.Passed.{Late, Early, as-early, early, passed-early, refused-first, Matches, Whole, late-passed, is-accepted, is-nine, is-eight}
 
 abbrev num : Report → ℕ
@@ -244,6 +244,10 @@ module _ (E : Edition) (pass salt : List ℕ) (iter : ℕ) (K L iv body : List �
   pub write-numbers : map (λ (t : Test). t .number) tests ≡ 1 ∷ 2 ∷ 3 ∷ 5 ∷ 9 ∷ 10 ∷ []
   unfolding writeTests earlyWriteTests
   write-numbers = refl
+
+  pub write-between : between 1 10 tests ≡ true
+  unfolding writeTests earlyWriteTests
+  write-between = refl
 
   write-first : (k : ℕ) → First k tests → w ≡ unwritten k room
   unfolding writingOf

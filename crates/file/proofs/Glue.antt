@@ -1,4 +1,4 @@
--- Lists that are glued together: parts of the same lengths are equal where their glue is, and a list is its parts.
+-- Lists that are glued together: parts of the same lengths are equal where their glue is, and a list is its parts: by recursion on the parts.
 use Prim.Native.Nat.{ℕ, _+_}
 use mathlib.Core.Path.{_≡_, refl, ap, ap₂, _∙_}
 use mathlib.Core.Bool.{Bool, true, false, _&&_}

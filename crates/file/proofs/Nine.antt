@@ -1,8 +1,8 @@
 -- Past the check, 9 exactly when the body is not as described, or its HMAC differs: by the two tests of the body, which decide the description.
 use Prim.Native.Nat.{ℕ, _-_, _/_}
-use mathlib.Core.Path.{_≡_, sym, ap, _∙_}
+use mathlib.Core.Path.{_≡_, ap, _∙_}
 use mathlib.Core.Logic.{_↔_}
-use mathlib.Core.Bool.{Bool, not}
+use mathlib.Core.Bool.{not}
 use mathlib.Core.List.{List}
 use lib.ListN.{length}
 use borrow.Author.Tests.{not-false}

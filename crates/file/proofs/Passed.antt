@@ -9,10 +9,10 @@ use lib.ListN.{length, drop}
 use Rattle.words.specs.Numbers.{numberLow}
 use Rattle.chain.specs.Opening.{Opening}
 use Rattle.file.specs.Layout.{Parts, split, tag, differ, firstMarker}
-use Rattle.file.specs.Refusals.{Pass, First}
+use Rattle.file.specs.Refusals.{First}
+use Rattle.file.proofs.Tables.{Pass, Decided, passes, stops, decide, all-pass, first-stops, first-between}
 use Rattle.file.specs.Edition.{Edition, Stretched}
 use Rattle.file.specs.Reading.{Report, refused, accepted, badLength, earlyTests, keyK, keyL, bodyOf, bodyTests, judged, checked, readingOf}
-use Rattle.file.proofs.Tables.{Decided, passes, stops, decide, all-pass, first-stops, first-between}
 
 -- a number that is none of 1 to 7
 abbrev pub Late : ℕ → Type 0

@@ -6,8 +6,18 @@ use mathlib.Core.List.{List, [], _∷_, _++_}
 use native.Mathlib.Omega.{arith}
 use lib.Dec.{leb}
 use borrow.Author.Tests.{leb-true}
-use Rattle.file.specs.Refusals.{Test, deciding, Pass, First, here, later, between}
+use Rattle.file.specs.Refusals.{Test, deciding, First, here, later}
 use Rattle.file.proofs.Glue.{and-true}
+
+-- no test of the table fails
+abbrev pub Pass : List Test → Type 0
+Pass [] = Unit {0}
+Pass (t ∷ ts) = (t .fails ≡ false) × Pass ts
+
+-- the numbers of a table lie between a and b
+abbrev pub between : ℕ → ℕ → List Test → Bool
+between a b [] = true
+between a b (t ∷ ts) = leb a (t .number) && (leb (t .number) b && between a b ts)
 
 pub data Decided {A : Type 0} (refuse : ℕ → A) (ts : List Test) (y : A) : Type 0 where
   passes : Pass ts → deciding refuse ts y ≡ y → Decided refuse ts y

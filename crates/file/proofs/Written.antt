@@ -1,5 +1,5 @@
 -- What is written is a safe, so it is read back; and an accepted file's own values are written as the same file, byte for byte.
-use Prim.Native.Nat.{ℕ, _+_, _-_, _/_, _%_, _^_, _<_, _≤_}
+use Prim.Native.Nat.{ℕ, _+_, _-_, _/_, _%_, _≤_}
 use mathlib.Core.Path.{_≡_, refl, sym, ap, ap₂, _∙_}
 use mathlib.Core.Logic.{_↔_}
 use mathlib.Core.Bool.{Bool, true, false, _||_, not}
@@ -9,16 +9,16 @@ use lib.Dec.{ltb, eqb}
 use lib.ListN.{length, take}
 use lib.Seq.{take-at}
 use borrow.Author.Tests.{not-false, ltb-false, eqb-true, le-ltb, eq-eqb}
-use Rattle.words.specs.Numbers.{Bytes, Sized, numberLow}
+use Rattle.words.specs.Numbers.{Bytes, numberLow}
 use Rattle.words.specs.Slices.{zeros}
 use Rattle.file.specs.Layout.{split}
 use Rattle.file.specs.Edition.{Edition, Laws}
 use Rattle.file.specs.Description.{IsSafe, cbc, fileOf}
-use Rattle.file.specs.Reading.{readingOf}
-use Rattle.file.specs.Writing.{Writing, unwritten, badBody, clear, earlyWriteTests, writeTests, written, writingOf}
+use Rattle.file.specs.Reading.{readingOf, Answers}
+use Rattle.file.specs.Writing.{Values, Writing, unwritten, badBody, clear, earlyWriteTests, writeTests, written, writingOf}
 use Rattle.file.proofs.Tables.{Decided, passes, stops, decide, all-pass, first-between}
 use Rattle.file.proofs.Markers.{clear-each, each-clear}
-use Rattle.file.proofs.Accepted.{Answers, file-long, safe-read, read-safe}
+use Rattle.file.proofs.Accepted.{file-long, safe-read, read-safe}
 
 -- the tests of a writing that is accepted
 pub record Writes (E : Edition) (pass : List ℕ) (iter : ℕ) (K iv body : List ℕ) (room : ℕ) : Type 0 where
@@ -28,15 +28,6 @@ pub record Writes (E : Edition) (pass : List ℕ) (iter : ℕ) (K iv body : List
   pub t5 : ltb iter (E .floor) ≡ false
   pub t9 : not (E .wellFormed body) ≡ false
   pub t10 : not (clear (length body / 16) (cbc E K iv body)) ≡ false
-
--- the values' sizes, which their types say
-pub record Values (salt : List ℕ) (iter : ℕ) (K L iv body : List ℕ) : Type 0 where
-  pub salt-sized : Sized 32 salt
-  pub iter-fits : iter < 2 ^ 32
-  pub K-sized : Sized 32 K
-  pub L-sized : Sized 32 L
-  pub iv-sized : Sized 16 iv
-  pub body-bytes : Bytes body
 
 pub good-body : (n : ℕ) → badBody n ≡ false → (32 ≤ n) × (n ≤ 4194096) × (n % 16 ≡ 0)
 unfolding badBody

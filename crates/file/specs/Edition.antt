@@ -1,5 +1,5 @@
--- What an edition of the file format brings: its stretching, its HMAC, its cipher and its rules for a body. A second edition joins by these two
--- records alone, and everything that is proved here then holds of it.
+-- What an edition of the file format brings: its stretching, its HMAC, its cipher and its rules for a body. Another with
+-- this layout, this order of refusals and these counts joins by the two records below, and everything that is proved here then holds of it.
 use Prim.Native.Nat.{ℕ, _+_, _/_, _^_, _<_, _≤_}
 use mathlib.Core.Path.{_≡_}
 use mathlib.Core.Bool.{Bool, true}

@@ -1,4 +1,4 @@
--- The V3 file by offset (document 01, "The file, by offset"): its parts, and the parts put together again. All offsets stand here.
+-- The V3 file by offset (document 01, "The file, by offset"): its parts, and the parts put together again. The offsets of all parts stand here.
 use Prim.Native.Nat.{ℕ, zero, suc, _-_}
 use mathlib.Core.Bool.{Bool, cond, not}
 use mathlib.Core.List.{List, [], _∷_, _++_}

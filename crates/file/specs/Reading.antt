@@ -1,5 +1,6 @@
 -- What a reading answers, and what it leaves in the workspace (document 01, "Numbers of refusal").
 use Prim.Native.Nat.{ℕ, _+_, _-_, _/_, _%_}
+use mathlib.Core.Path.{_≡_}
 use mathlib.Core.Bool.{Bool, not, _||_}
 use mathlib.Core.List.{List, [], _∷_, _++_}
 use lib.Dec.{ltb, eqb}
@@ -22,6 +23,13 @@ pub record Report : Type 0 where
   pub compressions : ℕ
   pub blocks : ℕ
   pub body : List ℕ
+
+-- an acceptance with these keys and this body
+pub record Answers (r : Report) (K L body : List ℕ) : Type 0 where
+  pub accepts : r .number ≡ 0
+  pub givesK : r .keyK ≡ K
+  pub givesL : r .keyL ≡ L
+  pub givesBody : r .body ≡ body
 
 -- refused: keys and counts zero, and no body
 unfoldable pub refused : ℕ → ℕ → ℕ → Report

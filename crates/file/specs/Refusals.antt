@@ -1,9 +1,8 @@
 -- Refusals in order: a table of tests, each with its number (document 01, "Numbers of refusal"). The first test that fails decides.
 use Prim.Native.Nat.{ℕ}
 use mathlib.Core.Path.{_≡_}
-use mathlib.Core.Bool.{Bool, true, false, cond, _&&_}
+use mathlib.Core.Bool.{Bool, true, false, cond}
 use mathlib.Core.List.{List, [], _∷_}
-use lib.Dec.{leb}
 
 pub record Test : Type 0 where
   pub number : ℕ
@@ -16,17 +15,7 @@ abbrev pub deciding : {A : Type 0} → (ℕ → A) → List Test → A → A
 deciding refuse [] y = y
 deciding refuse (t ∷ ts) y = cond (t .fails) (refuse (t .number)) (deciding refuse ts y)
 
--- no test of the table fails
-abbrev pub Pass : List Test → Type 0
-Pass [] = Unit {0}
-Pass (t ∷ ts) = (t .fails ≡ false) × Pass ts
-
 -- the first that fails has number k
 pub data First (k : ℕ) : List Test → Type 0 where
   here : {t : Test} {ts : List Test} → t .number ≡ k → t .fails ≡ true → First k (t ∷ ts)
   later : {t : Test} {ts : List Test} → t .fails ≡ false → First k ts → First k (t ∷ ts)
-
--- the numbers of a table lie between a and b
-abbrev pub between : ℕ → ℕ → List Test → Bool
-between a b [] = true
-between a b (t ∷ ts) = leb a (t .number) && (leb (t .number) b && between a b ts)

@@ -1,9 +1,10 @@
 -- What a writing answers, and what it leaves in the output (document 01, "Numbers of refusal").
-use Prim.Native.Nat.{ℕ, zero, suc, _+_, _-_, _/_, _%_}
+use Prim.Native.Nat.{ℕ, zero, suc, _+_, _-_, _/_, _%_, _^_, _<_}
 use mathlib.Core.Bool.{Bool, true, not, _||_, _&&_}
 use mathlib.Core.List.{List, [], _∷_, _++_}
 use lib.Dec.{ltb, eqb}
 use lib.ListN.{length, take, drop}
+use Rattle.words.specs.Numbers.{Bytes, Sized}
 use Rattle.words.specs.Slices.{zeros}
 use Rattle.file.specs.Layout.{marker, differ}
 use Rattle.file.specs.Refusals.{Test, refuse-if, deciding}
@@ -13,6 +14,15 @@ use Rattle.file.specs.Description.{cbc, fileOf}
 pub record Writing : Type 0 where
   pub number : ℕ
   pub output : List ℕ
+
+-- what the caller supplies: values of fixed size, an ITER of 32 bits, and a body of bytes
+pub record Values (salt : List ℕ) (iter : ℕ) (K L iv body : List ℕ) : Type 0 where
+  pub salt-sized : Sized 32 salt
+  pub iter-fits : iter < 2 ^ 32
+  pub K-sized : Sized 32 K
+  pub L-sized : Sized 32 L
+  pub iv-sized : Sized 16 iv
+  pub body-bytes : Bytes body
 
 -- refused: all zero
 unfoldable pub unwritten : ℕ → ℕ → Writing

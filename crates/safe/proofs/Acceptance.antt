@@ -9,12 +9,12 @@ use Rattle.words.specs.Numbers.{numberLow}
 use Rattle.words.specs.Slices.{zeros}
 use Rattle.words.proofs.ByteLaws.{append-inj}
 use Rattle.file.specs.Layout.{split}
-use Rattle.file.specs.Reading.{Report, workspaceOf, readingOf}
-use Rattle.file.proofs.Accepted.{Answers, Read, file-long, read-safe}
+use Rattle.file.specs.Reading.{Report, workspaceOf, readingOf, Answers}
+use Rattle.file.proofs.Accepted.{Read, file-long, read-safe}
 use Rattle.safe.specs.V3.{v3}
 use Rattle.safe.specs.declared.Reading.{Reading}
 use Rattle.safe.proofs.V3Laws.{v3-laws}
-use Rattle.safe.proofs.Calls.{numberOf, Reads, Accepts}
+use Rattle.safe.specs.Calls.{numberOf, Reads, Accepts}
 use Rattle.safe.proofs.Contracts.{number-is, k-is, l-is}
 
 module _ {file passphrase before after : List ℕ} {ceiling : ℕ} {r : Reading} (c : Reads file passphrase ceiling before after r) where

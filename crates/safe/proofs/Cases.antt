@@ -21,9 +21,9 @@ use Rattle.body.proofs.Cases.{least, least-bytes}
 use Rattle.file.specs.Layout.{split, tag, marker, firstMarker}
 use Rattle.file.specs.Description.{IsSafe, cbc, fileOf}
 use Rattle.file.specs.Reading.{refused, badLength, earlyTests, checked, readingOf}
-use Rattle.file.specs.Writing.{badBody, clear, earlyWriteTests, writeTests, written, unwritten, writingOf}
+use Rattle.file.specs.Writing.{badBody, clear, earlyWriteTests, writeTests, written, unwritten, writingOf, Values}
 use Rattle.file.proofs.Cases.{saved}
-use Rattle.file.proofs.Written.{Values, write-exactly}
+use Rattle.file.proofs.Written.{write-exactly}
 use Rattle.safe.specs.V3.{v3}
 use Rattle.safe.proofs.V3Laws.{v3-laws}
 

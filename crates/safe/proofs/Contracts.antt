@@ -17,7 +17,7 @@ use Rattle.safe.specs.declared.Written.the-variants as Written
 use Rattle.safe.specs.declared.Reading.{Reading}
 
 -- the refusal of a number
-abbrev refusalOf : ℕ → Refusal
+abbrev pub refusalOf : ℕ → Refusal
 refusalOf n =
     cond (eqb n 1) Length (cond (eqb n 2) Passphrase (cond (eqb n 3) Room (cond (eqb n 4) Tag (cond (eqb n 5) Floor
     (cond (eqb n 6) Ceiling (cond (eqb n 7) Marker (cond (eqb n 8) Check (cond (eqb n 9) Body Block))))))))
@@ -88,14 +88,6 @@ module _ {report : Report} {before after : List ℕ} {r : Reading} (c : Reports 
   pub records-are : recordsIn (r .outcome) ≡ report .records
   unfolding reported
   records-are = ap (λ (t : Report). t .records) (c .answer)
-
-  pub compressions-are : r .compressions ≡ report .compressions
-  unfolding reported
-  compressions-are = ap (λ (t : Report). t .compressions) (c .answer)
-
-  pub blocks-are : r .blocks ≡ report .blocks
-  unfolding reported
-  blocks-are = ap (λ (t : Report). t .blocks) (c .answer)
 
 -- ---- writing
 

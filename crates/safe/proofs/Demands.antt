@@ -21,10 +21,9 @@ use Rattle.body.proofs.Decided.{counts-are}
 use Rattle.file.specs.Layout.{split, join, glue, listed, tag, marker}
 use Rattle.file.specs.Refusals.{Test, First}
 use Rattle.file.specs.Description.{IsSafe, wrapped, cbc, partsOf, fileOf}
-use Rattle.file.specs.Reading.{Report, refused, workspaceOf, earlyTests, readingOf}
+use Rattle.file.specs.Reading.{Report, refused, workspaceOf, earlyTests, readingOf, Answers}
 use Rattle.file.specs.Writing.{Writing, writeTests, writingOf}
 use Rattle.file.proofs.Accepted as Accepted
-use Rattle.file.proofs.Accepted.{Answers}
 use Rattle.file.proofs.Written as Written
 use Rattle.file.proofs.Passed.{Late, early}
 use Rattle.file.proofs.Alike.{count-opened, compressed, matched, alike-matched, alike-unmatched}
@@ -38,7 +37,7 @@ use Rattle.safe.specs.Steps.{Reports}
 use Rattle.safe.specs.declared.Reading.{Reading}
 use Rattle.safe.specs.declared.Written.{Written}
 use Rattle.safe.proofs.V3Laws.{v3-laws}
-use Rattle.safe.proofs.Calls.{saltIn, iterIn, ivIn, encryptedIn, macIn, blocksIn, keyKIn, keyLIn, lastState, Matching, numberOf, OneToFour, OneToSeven, Reads, Accepts, Writes}
+use Rattle.safe.specs.Calls.{saltIn, iterIn, ivIn, encryptedIn, macIn, blocksIn, keyKIn, keyLIn, lastState, Matching, numberOf, OneToFour, OneToSeven, Reads, Accepts, Writes}
 use Rattle.safe.proofs.Contracts.{one-report, number-is, k-is, l-is, headers-are, records-are, written-told}
 use Rattle.safe.proofs.Acceptance.{is-read, accepts-exactly}
 use Rattle.safe.proofs.Stretching.{matching}
@@ -323,8 +322,8 @@ module _ {file passphrase before after : List ℕ} {ceiling : ℕ} {r : Reading}
       told (λ n a b. (OneToSeven n → ⊥) → Matching passphrase file
       → (n ≡ 9) ↔ ((w : WellFormed (lastState passphrase file .done)) → hmacOf (keyLIn passphrase file) (covered (w .fields)) ≡ macIn file → ⊥))
       (λ past m.
-          let e = nine v3 v3-laws file passphrase ceiling room (c .bytes) (late past) (matching passphrase file .0 m) in
-          (λ h w q. e .0 h (covered (w .fields), (w, refl), q), λ h. e .1 λ d. h (d .1 .0) (ap (hmacOf (keyLIn passphrase file)) (d .1 .1) ∙ d .2)))
+      let e = nine v3 v3-laws file passphrase ceiling room (c .bytes) (late past) (matching passphrase file .0 m) in
+      (λ h w q. e .0 h (covered (w .fields), (w, refl), q), λ h. e .1 λ d. h (d .1 .0) (ap (hmacOf (keyLIn passphrase file)) (d .1 .1) ∙ d .2)))
 
   -- So whatever is past 1 to 8 and not accepted is 9.
   pub reading-else : (OneToSeven (numberOf r) → ⊥) → Matching passphrase file → (numberOf r ≡ 0 → ⊥) → numberOf r ≡ 9

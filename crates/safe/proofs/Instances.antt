@@ -17,7 +17,7 @@ use Rattle.file.specs.Refusals.{Test, First, here, later}
 use Rattle.file.specs.Reading.{Report, refused, badLength, earlyTests, readingOf}
 use Rattle.file.proofs.Passed.{refused-first}
 use Rattle.safe.specs.V3.{v3}
-use Rattle.safe.proofs.Calls.{OneToFour}
+use Rattle.safe.specs.Calls.{OneToFour}
 
 -- (by the definitions, by document 01), for passphrases a, b and c and a salt
 abbrev pub thirteen : (a b c salt : List ℕ) → List (ℕ × ℕ)

@@ -1,4 +1,4 @@
--- The head of a file, laid part after part: what is laid behind what stands, and the bytes of ITER.
+-- A file laid part after part, its head, its body, marker and HMAC, is the file of the description: each part stands right behind those before it.
 use Prim.Native.Nat.{ℕ, _+_, _-_, _*_, _/_, _≤_}
 use mathlib.Core.Path.{_≡_, refl, sym, ap, ap₂, _∙_}
 use mathlib.Core.Bool.{true, false}

@@ -5,8 +5,8 @@ mod Sealing
 mod Verdicts
 mod Laying
 mod Writes
-pub mod Calls
 mod Contracts
+pub mod Told
 mod Acceptance
 mod Stretching
 pub mod Instances

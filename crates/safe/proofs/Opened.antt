@@ -1,4 +1,4 @@
--- What decryption hands on is the definition's state: the memory is its text, and the count its own.
+-- What decryption hands on is the definition's state, the memory its text and the count its own; and the keys wrapped again: by the laws of a memory of whole blocks.
 use Prim.Native.Nat.{ℕ, _+_, _-_, _*_, _/_, _%_, _^_, _<_}
 use mathlib.Core.Path.{_≡_, ap, _∙_}
 use mathlib.Core.List.{List, [], _++_, append-nil}

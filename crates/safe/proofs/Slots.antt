@@ -1,4 +1,4 @@
--- Values copied out of a slice and parts laid into one: what stands where, by what is taken and dropped.
+-- Parts laid into a slice, and its front zeroed: what stands where, by what is taken and dropped.
 use Prim.Native.Nat.{ℕ, _+_, _-_, _≤_}
 use mathlib.Core.Path.{_≡_, refl, sym, ap, ap₂, _∙_}
 use mathlib.Core.List.{List, _++_, append-assoc}

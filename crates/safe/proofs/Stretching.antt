@@ -10,7 +10,7 @@ use Rattle.file.specs.Layout.{split}
 use Rattle.file.proofs.Glue.{same-of, same-is}
 use Rattle.file.proofs.Passed.{Matches}
 use Rattle.safe.specs.V3.{v3, stretchedV3}
-use Rattle.safe.proofs.Calls.{saltIn, iterIn, checkIn, Matching}
+use Rattle.safe.specs.Calls.{saltIn, iterIn, checkIn, Matching}
 
 module _ (passphrase file : List ℕ) where
   pub matching : Matching passphrase file ↔ Matches (split file) (v3 .stretched passphrase (split file .salt) (numberLow (split file .iter)))

@@ -3,3 +3,4 @@ pub mod Answers
 pub mod Steps
 pub mod Laying
 pub mod Part
+pub mod Calls

@@ -14,7 +14,7 @@ ghost use Rattle.safe.specs.V3.{v3};
 ghost use Rattle.safe.specs.Answers.{writtenNumber};
 ghost use Rattle.safe.specs.Steps.{Reports};
 
-// Why a file is not read, or not written.
+// Why a file is not read, or not written: document 01's numbers 1 to 10, in their order.
 pub enum Refusal {
     Length,
     Passphrase,

@@ -2,7 +2,6 @@
 use super::Early;
 use super::Refusal;
 use super::values::iter;
-use body::Judged;
 use file::bad_body;
 use file::bad_length;
 use file::first_marker;
@@ -25,8 +24,7 @@ fn wrong_tag(file: &[u8]) -> bool
     requires { ⌜ 4 ≤ length (now file) ⌝ }
     ensures { λ r. ⌜ r ≡ differ (take 4 (now (file .entry))) tag ⌝ }
 {
-    let t = [80u8, 87, 83, 51];
-    if same(&file[..4], &t) {
+    if same(&file[..4], b"PWS3") {
         return false;
     }
     true
@@ -72,11 +70,10 @@ pub fn reading(file: &[u8], passphrase: &[u8], ceiling: u32, room: usize) -> Ear
 fn bad_fields(body: &[u8]) -> bool
     ensures { λ r. ⌜ r ≡ not (wellFormed (now (body .entry))) ⌝ }
 {
-    let j = body::judge(body);
-    let Judged::Counts(_, _) = j else {
-        return true;
-    };
-    false
+    if body::well_formed(body) {
+        return false;
+    }
+    true
 }
 
 pub fn writing(passphrase: &[u8], iter: u32, body: &[u8], room: usize) -> Early

@@ -1,7 +1,7 @@
 -- The bytes of a hash value, and its words again: the bytes of a word, highest first, are the word.
 use mathlib.Core.Path.{_≡_, refl, ap, ap₂, _∙_}
 use mathlib.Core.List.{List, [], _∷_, _++_}
-use Prim.Native.Nat.{ℕ, _+_, _^_, _<_}
+use Prim.Native.Nat.{ℕ, _^_, _<_}
 use native.Mathlib.Nat.{mod-eq-of-lt}
 use Rattle.words.specs.Numbers.{byteOf, numberLow, bytesLow, numberHigh, bytesHigh, Sized}
 use Rattle.words.proofs.NumberLaws.{four-high, number-bytes-high, bytes-high-sized}

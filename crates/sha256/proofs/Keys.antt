@@ -17,8 +17,7 @@ use Rattle.sha256.specs.declared.Running.{Running}
 use Rattle.sha256.specs.declared.Mac.{Mac}
 use Rattle.sha256.specs.Sha256.{hashOf, digestOf, sha256}
 use Rattle.sha256.specs.Hmac.{shortKey, keyBlock, keyed, hmacOf}
-use Rattle.sha256.specs.Running.{runningOf, left, room, macOf, MacTakes, MacEnds}
-use Rattle.sha256.specs.Running.{Takes as RunTakes, Ends as RunEnds}
+use Rattle.sha256.specs.Running.{runningOf, left, room, macOf, MacTakes, MacEnds, Takes as RunTakes, Ends as RunEnds}
 use Rattle.sha256.proofs.Digest.{sha256-sized}
 use Rattle.words.proofs.ByteLaws.{drop-same}
 use Rattle.sha256.proofs.Pieces.{same, state as runState}

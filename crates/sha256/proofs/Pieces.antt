@@ -1,6 +1,6 @@
 -- The three ways that a piece is taken into a running hash: it leaves the block open, it ends it, or it follows whole blocks. Each by what the hash value after so many blocks does not look at.
 use mathlib.Core.Path.{_≡_, refl, sym, ap, ap₂, _∙_}
-use mathlib.Core.List.{List, [], _∷_, _++_, append-assoc, append-nil}
+use mathlib.Core.List.{List, [], _∷_, _++_}
 use Prim.Native.Nat.{ℕ, zero, suc, _+_, _-_, _*_, _/_, _%_, _^_, _<_, _≤_}
 use native.Mathlib.Nat.{add-zero}
 use native.Mathlib.Numerals.{add-one}
@@ -11,7 +11,7 @@ use Rattle.words.proofs.ByteLaws.{drop-same}
 use Rattle.sha256.specs.declared.Vars.{Vars}
 use Rattle.sha256.specs.Sha256.{wordOf, wordsOf, compressOf, valueOf}
 use Rattle.sha256.specs.declared.Running.{Running}
-use Rattle.sha256.specs.Running.{left, room, runningOf, Takes, foldsOf}
+use Rattle.sha256.specs.Running.{left, room, runningOf, foldsOf}
 
 -- ---- the words of a list are those of its front
 
@@ -153,11 +153,3 @@ module _ (m d : List ℕ) where
         (counts len-is c)
         (u ∙ ap (λ (x : List ℕ). paste (replicate 64 0) 0 x (length x)) f ∙ pasted [] (left d) (omega arith)
         ∙ ap room (sym (ap (λ (x : ℕ). drop x (m ++ d)) i ∙ drop-append-add m d (length d / 64 * 64))))
-
--- ---- pieces in a row
-
-pub none : (st : Running) → Takes st [] st
-none st m e = e ∙ ap runningOf (sym (append-nil m))
-
-pub both : {a b c : Running} (x y : List ℕ) → Takes a x b → Takes b y c → Takes a (x ++ y) c
-both x y f g m e = g (m ++ x) (f m e) ∙ ap runningOf (append-assoc m x y)

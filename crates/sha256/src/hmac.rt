@@ -22,7 +22,7 @@ fn key_block(key: &[u8]) -> [u8; 64]
     b
 }
 
-// The key's block with x in every byte.
+// The key's block, each byte exclusive-ored with x.
 fn keyed(key: &[u8], x: u8) -> [u8; 64]
     ensures { λ r. ⌜ r ≡ keyedOf x (now (key .entry)) ⌝ }
 {

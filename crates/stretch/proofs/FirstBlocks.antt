@@ -1,4 +1,4 @@
--- The bytes of a padded message of two parts, one block of them, and the blocks as far as they are taken in.
+-- The bytes of a padded message of two parts, one block of them, and the blocks as far as they are taken in: by where each byte's index falls.
 use mathlib.Core.Path.{_≡_, refl, sym, ap, ap₂, _∙_}
 use mathlib.Core.List.{List, [], _∷_, _++_}
 use Prim.Native.Nat.{ℕ, _+_, _-_, _*_, _/_, _<_, _≤_}

@@ -7,7 +7,7 @@ use sha256::compression::compress;
 use words::numbers::wide_byte;
 ghost use mathlib.Core.Path.{_≡_};
 ghost use mathlib.Core.List.{_++_};
-ghost use Prim.Native.Nat.{_+_, _*_, _<_, _≤_};
+ghost use Prim.Native.Nat.{_+_, _*_, _≤_};
 ghost use lib.ListN.{length, getD, take, drop};
 ghost use Rattle.sha256.specs.Sha256.{padding, padded};
 ghost use Rattle.sha256.specs.Steps.{listOf};
@@ -28,6 +28,7 @@ fn compressed(s: Stretcher, m: Block) -> Stretcher
 fn padding_byte(n: usize, k: usize) -> u8
     ensures { λ r. ⌜ r ≡ getD (padding n) k 0 ⌝ }
 {
+    // so many zeros that the 8 bytes of the length end a block: 119 is 2 * 64 - 9
     let z = (119 - n % 64) % 64;
     if k == 0 {
         return 128;
@@ -71,6 +72,7 @@ fn block_bytes(p: &[u8], s: &[u8], q: usize) -> [u8; 64]
     b
 }
 
+// As a slice the salt brings its length into the proof.
 pub fn hash(p: &[u8], s: &[u8; 32]) -> Stretcher
     ensures { λ r. ⌜ r ≡ startOf (now (p .entry)) (now (s .entry)) ⌝ }
 {

@@ -5,7 +5,6 @@ use sha256::Vars;
 use sha256::compression::again;
 use sha256::compression::digest;
 ghost use mathlib.Core.Path.{_≡_};
-ghost use Prim.Native.Nat.{_<_};
 ghost use Rattle.stretch.specs.Stretch.{startOf, stepOf, stretchedOf, keyOf};
 
 // A hash value, and how many compressions led there.

@@ -2,3 +2,4 @@ pub mod Stored
 mod Values
 mod Keys
 pub mod OneAnswer
+pub mod AsRead

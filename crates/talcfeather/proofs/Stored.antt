@@ -2,15 +2,14 @@
 use mathlib.Core.Path.{_≡_, refl, sym, ap, ap₂, _∙_}
 use mathlib.Core.Bool.{Bool, true, false}
 use mathlib.Core.List.{List, [], _∷_, _++_, append-nil}
-use Prim.Native.Nat.{ℕ, zero, suc, _+_, _-_, _*_, _/_, _%_, _^_, _<_, _≤_}
+use Prim.Native.Nat.{ℕ, suc, _+_, _-_, _*_, _/_, _%_, _<_, _≤_}
 use native.Mathlib.Omega.{arith}
 use borrow.Author.Tests.{ltb-true, ltb-false}
 use lib.Dec.{ltb}
-use lib.ListN.{length, getD, take, drop, length-append, drop-of-length-le, List·getD-append}
-use lib.Seq.{paste, take-all, take-at, drop-append-add, getD-append-add}
-use Rattle.words.specs.Numbers.{numberLow, bytesLow, byteOf}
-use Rattle.words.specs.Slices.{zeros}
-use Rattle.words.proofs.NumberLaws.{number-bytes, bytes-sized, byte-is}
+use lib.ListN.{length, getD, drop, length-append, drop-of-length-le, List·getD-append}
+use lib.Seq.{paste, take-all, getD-append-add}
+use Rattle.words.specs.Numbers.{bytesLow, byteOf}
+use Rattle.words.proofs.NumberLaws.{bytes-sized, byte-is}
 use Rattle.talcfeather.specs.Numbers.{stored}
 
 pub stored-length : (l : List ℕ) → length (stored l) ≡ 8 * length l
@@ -55,22 +54,3 @@ pub all-stored : (m s : List ℕ) (i : ℕ) → length m ≡ length s → length
 all-stored m s i e h =
     let d : drop (0 + i) m ≡ [] = drop-of-length-le m {i = 0 + i} (omega arith) in
     ap₂ (λ (a b : List ℕ). a ++ b) (take-all i s h) d ∙ append-nil s
-
--- each number can be read back: 8 bytes at 8 times its index
-pub stored-number : (l : List ℕ) (i : ℕ) → i < length l → numberLow (take 8 (drop (8 * i) (stored l))) ≡ getD l i 0 % 2 ^ 64
-unfolding stored
-stored-number [] i h = absurd (omega arith)
-stored-number (x ∷ l) zero h =
-    ap numberLow (take-at (bytesLow 8 x) (stored l) 8 (bytes-sized 8 x .long)) ∙ number-bytes 8 x
-stored-number (x ∷ l) (suc i) h =
-    let e : 8 * suc i ≡ length (bytesLow 8 x) + 8 * i = omega (arith, bytes-sized 8 x .long) in
-    ap (λ (s : List ℕ). numberLow (take 8 s)) (ap (λ (k : ℕ). drop k (bytesLow 8 x ++ stored l)) e ∙ drop-append-add (bytesLow 8 x) (stored l) (8 * i))
-    ∙ stored-number l i (omega arith)
-
--- numbers that are zero are bytes that are zero
-pub stored-zeros : (n : ℕ) → stored (zeros n) ≡ zeros (8 * n)
-unfolding stored bytesLow
-stored-zeros zero = refl
-stored-zeros (suc n) =
-    let e : suc (suc (suc (suc (suc (suc (suc (suc (8 * n)))))))) ≡ 8 * suc n = omega arith in
-    ap (λ (s : List ℕ). zeros 8 ++ s) (stored-zeros n) ∙ ap zeros e

@@ -9,11 +9,10 @@ use types.Run.{OneOf}
 use denote.Enum.Declared.{tagOf}
 use lib.ListN.{length, getD, take, drop}
 use Rattle.words.specs.Numbers.{numberLow}
-use Rattle.fields.specs.Value.{valueOf, recordShape}
+use Rattle.fields.specs.Value.{valueOf, recordShape, valueNumbers}
 use Rattle.fields.specs.declared.value.Value.{Value}
 use Rattle.fields.specs.declared.value.Value.the-variants as Value
 use Rattle.fields.proofs.value.Value as value
-use Rattle.talcfeather.specs.Walk.{valueNumbers}
 
 pub three-numbers : (v : Value) → getD (valueNumbers v) 0 0 ∷ getD (valueNumbers v) 1 0 ∷ getD (valueNumbers v) 2 0 ∷ [] ≡ valueNumbers v
 three-numbers Value.Empty = refl

@@ -1,20 +1,15 @@
 -- talc_append: its answer is one number, the next place.
 use Prim.Native.Nat.{ℕ}
 use mathlib.Core.Path.{_≡_}
-use mathlib.Core.List.{List, [], _∷_}
+use mathlib.Core.List.{List}
 use Rattle.fields.specs.Stored.{Stored}
-use Rattle.fields.specs.Append.{appendOf, bufferAfter, appendNumber}
+use Rattle.fields.specs.Append.{appendOf, bufferAfter, appendNumber, appendValues}
 use Rattle.fields.specs.declared.store.Appended.{Appended}
-use Rattle.fields.specs.declared.store.Appended.the-variants.{Next, Misplaced, EndWithData, BadFill, NoRoom}
-use Rattle.talcfeather.specs.Numbers.{stored}
+use Rattle.talcfeather.specs.Numbers.{padded, stored}
 
 -- zero where refused
 abbrev pub appendNumbers : Appended → List ℕ
-appendNumbers (Next q) = q ∷ []
-appendNumbers Misplaced = 0 ∷ []
-appendNumbers EndWithData = 0 ∷ []
-appendNumbers BadFill = 0 ∷ []
-appendNumbers NoRoom = 0 ∷ []
+appendNumbers a = padded 1 (appendValues a)
 
 -- the field f to a buffer that holds `before`, at a place
 pub record Appends (before : List ℕ) (place : ℕ) (f : Stored) (number : ℕ) (buffer next : List ℕ) : Type 0 where

@@ -4,16 +4,18 @@ use mathlib.Core.Path.{_≡_}
 use mathlib.Core.List.{List, [], _∷_}
 use lib.ListN.{take, drop}
 use Rattle.words.specs.Numbers.{numberLow}
-use Rattle.body.specs.Find.{findOf, findNumber}
+use Rattle.body.specs.Find.{findOf, findNumber, findValues}
 use Rattle.body.specs.declared.Sought.{Sought}
-use Rattle.body.specs.declared.Sought.the-variants.{At, Nowhere, NotWellFormed}
-use Rattle.talcfeather.specs.Numbers.{stored}
+use Rattle.talcfeather.specs.Numbers.{padded, stored}
+
+-- 1 before the values, where there are any
+abbrev pub marked : List ℕ → List ℕ
+marked [] = []
+marked (x ∷ l) = 1 ∷ x ∷ l
 
 -- zero where there is none, and where refused
 abbrev pub findNumbers : Sought → List ℕ
-findNumbers (At n p) = 1 ∷ n ∷ p ∷ []
-findNumbers Nowhere = 0 ∷ 0 ∷ 0 ∷ []
-findNumbers NotWellFormed = 0 ∷ 0 ∷ 0 ∷ []
+findNumbers s = padded 3 (marked (findValues s))
 
 -- a UUID is sought by its halves, as it is stored: bytes 0 to 7 and bytes 8 to 15
 unfoldable pub soughtOf : List ℕ → List ℕ → Sought

@@ -1,16 +1,14 @@
 -- talc_judge: its answer is two numbers, those of header fields and of records.
 use Prim.Native.Nat.{ℕ}
 use mathlib.Core.Path.{_≡_}
-use mathlib.Core.List.{List, [], _∷_}
-use Rattle.body.specs.Decision.{judgedOf, judgeNumber}
+use mathlib.Core.List.{List}
+use Rattle.body.specs.Decision.{judgedOf, judgeNumber, judgeValues}
 use Rattle.body.specs.declared.Judged.{Judged}
-use Rattle.body.specs.declared.Judged.the-variants.{Counts, NotWellFormed}
-use Rattle.talcfeather.specs.Numbers.{stored}
+use Rattle.talcfeather.specs.Numbers.{padded, stored}
 
 -- zero where refused
 abbrev pub judgeNumbers : Judged → List ℕ
-judgeNumbers (Counts h r) = h ∷ r ∷ []
-judgeNumbers NotWellFormed = 0 ∷ 0 ∷ []
+judgeNumbers j = padded 2 (judgeValues j)
 
 pub record Judges (body : List ℕ) (number : ℕ) (answer : List ℕ) : Type 0 where
   pub is-number : number ≡ judgeNumber (judgedOf body)

@@ -7,8 +7,9 @@ use fields::Field;
 use fields::Value;
 use fields::Walked;
 ghost use mathlib.Core.Path.{_≡_};
-ghost use Rattle.talcfeather.specs.Walk.{valueNumbers, fieldNumbers, walkNumbers, Walks};
+ghost use Rattle.fields.specs.Value.{valueNumbers};
 ghost use Rattle.fields.specs.Walk.{walkNumber};
+ghost use Rattle.talcfeather.specs.Walk.{fieldNumbers, walkNumbers, Walks};
 
 // The kind of a value, and the numbers that it holds.
 fn value_numbers(v: Value) -> [u64; 3]

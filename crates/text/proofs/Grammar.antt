@@ -1,4 +1,4 @@
--- The run over the bytes accepts the texts of the grammar, and no others.
+-- The run over the bytes accepts the texts of the grammar, and no others: character by character one way, and by the state that each byte leaves the other.
 use Prim.Native.Nat.{ℕ, zero, suc, _-_, _≤_, _<_}
 use mathlib.Core.Path.{_≡_, refl, ap, _∙_}
 use mathlib.Core.Logic.{_↔_}

@@ -1,4 +1,4 @@
--- A run over the bytes goes byte by byte, and ends as its last state says.
+-- A run over the bytes goes byte by byte, and ends as its last state says: by its definition.
 use Prim.Native.Nat.{ℕ, _+_, _<_, _≤_}
 use mathlib.Core.Path.{_≡_}
 use mathlib.Core.List.{List}

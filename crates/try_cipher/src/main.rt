@@ -117,68 +117,19 @@ fn keys(key: &[u8; 32], m: &mut [u8; 64]) -> u64 {
 
 // Four blocks in ECB, then four in CBC, whose count goes on from the first.
 fn modes(key: &[u8; 32]) {
-    let iv = [
-        0xF0u8,
-        0xF1,
-        0xF2,
-        0xF3,
-        0xF4,
-        0xF5,
-        0xF6,
-        0xF7,
-        0xF8,
-        0xF9,
-        0xFA,
-        0xFB,
-        0xFC,
-        0xFD,
-        0xFE,
-        0xFF,
-    ];
+    let iv = b"\xf0\xf1\xf2\xf3\xf4\xf5\xf6\xf7\xf8\xf9\xfa\xfb\xfc\xfd\xfe\xff";
     let text = counting();
     let mut m = text;
     let four = keys(key, &mut m);
     let mut work = [0xEEu8; 68];
-    cbc(key, &iv, &text, &mut work, four);
+    cbc(key, iv, &text, &mut work, four);
 }
 
 fn main() {
     table();
-    let key = [
-        0x01u8,
-        0x23,
-        0x45,
-        0x67,
-        0x89,
-        0xAB,
-        0xCD,
-        0xEF,
-        0xFE,
-        0xDC,
-        0xBA,
-        0x98,
-        0x76,
-        0x54,
-        0x32,
-        0x10,
-        0x00,
-        0x11,
-        0x22,
-        0x33,
-        0x44,
-        0x55,
-        0x66,
-        0x77,
-        0x88,
-        0x99,
-        0xAA,
-        0xBB,
-        0xCC,
-        0xDD,
-        0xEE,
-        0xFF,
-    ];
+    let key =
+        b"\x01\x23\x45\x67\x89\xab\xcd\xef\xfe\xdc\xba\x98\x76\x54\x32\x10\x00\x11\x22\x33\x44\x55\x66\x77\x88\x99\xaa\xbb\xcc\xdd\xee\xff";
     let text = [0u8; 16];
-    vector(&key, &text);
-    modes(&key);
+    vector(key, &text);
+    modes(key);
 }

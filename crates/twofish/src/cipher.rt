@@ -11,6 +11,7 @@ ghost use Rattle.twofish.specs.Table.{at};
 ghost use Rattle.twofish.specs.Key.{h as hOf};
 ghost use Rattle.twofish.specs.Cipher.{whiten as whitenOf, swap as swapOf, round as roundOf, unround as unroundOf, encrypt as encryptOf, decrypt as decryptOf};
 
+// g is h with the vector S.
 fn g(t0: &[u8; 256], t1: &[u8; 256], s: &[u8; 16], x: u32) -> u32
     ensures { λ r. ⌜ r ≡ hOf (at (now (t0 .entry))) (at (now (t1 .entry))) (now (s .entry)) x ⌝ }
 {

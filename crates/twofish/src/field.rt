@@ -1,6 +1,6 @@
 // Bytes as polynomials over GF(2).
 ghost use mathlib.Core.Path.{_≡_};
-ghost use Prim.Native.Nat.{_*_, _%_, _<_};
+ghost use Prim.Native.Nat.{_*_, _%_};
 ghost use Rattle.twofish.specs.Field.{gf, twice as twiceOf};
 ghost use Rattle.twofish.specs.Columns.{half as halfOf, col0 as col0Of, col1 as col1Of, col2 as col2Of, col3 as col3Of};
 

@@ -1,7 +1,7 @@
 -- A number is its bytes and the bytes are the number, for every length and in both orders: by recursion on the length, and turning the list round.
 use mathlib.Core.Path.{_≡_, refl, sym, ap, ap₂, _∙_}
 use mathlib.Core.List.{List, [], _∷_, _++_, reverse, reverse-reverse}
-use Prim.Native.Nat.{ℕ, zero, suc, _+_, _-_, _*_, _/_, _%_, _^_, _<_}
+use Prim.Native.Nat.{ℕ, zero, suc, _+_, _*_, _/_, _%_, _^_, _<_}
 use native.Mathlib.Omega.{arith}
 use native.Mathlib.Nat.{mod-one, div-one, mul-assoc}
 use lib.ListN.{length, getD, length-reverse}
@@ -104,11 +104,6 @@ bytes-mod-high n x = ap reverse (bytes-mod n x)
 pub number-bytes-high : (n x : ℕ) → numberHigh (bytesHigh n x) ≡ x % 2 ^ (8 * n)
 unfolding numberHigh bytesHigh
 number-bytes-high n x = ap numberLow (reverse-reverse (bytesLow n x)) ∙ number-bytes n x
-
-pub bytes-number-high : {s : List ℕ} → Bytes s → bytesHigh (length s) (numberHigh s) ≡ s
-unfolding numberHigh bytesHigh
-bytes-number-high {s} h =
-    ap reverse (ap (λ (n : ℕ). bytesLow n (numberLow (reverse s))) (sym (length-reverse s)) ∙ bytes-number (bytes-reverse h)) ∙ reverse-reverse s
 
 pub bytes-high-sized : (n x : ℕ) → Sized n (bytesHigh n x)
 unfolding bytesHigh

@@ -1,4 +1,4 @@
--- What the loops over slices hold: a copy as far as it has come, and a comparison as far as it has come; and what a part put after another leaves.
+-- What the loops over slices hold: a copy as far as it has come, and a comparison as far as it has come; and what a part put after another leaves. By recursion on the list, and by the lengths of its parts.
 use mathlib.Core.Path.{_≡_, refl, sym, ap, ap₂, _∙_}
 use mathlib.Core.Bool.{Bool, true, false, cond}
 use mathlib.Core.List.{List, [], _∷_, _++_, append-assoc, append-nil}
@@ -55,11 +55,6 @@ same-true (a ∷ s) [] h = absurd (let z : _≡_ {A = ℕ} 0 1 = cc in omega ari
 same-true (a ∷ s) (b ∷ t) h =
     let g = both (eqb a b) (same s t) h in
     ap₂ _∷_ (eqb-true a b (g .0)) (same-true s t (g .1))
-
-pub same-false : (s t : List ℕ) → same s t ≡ false → s ≡ t → ⊥
-same-false s t h e =
-    let z : _≡_ {A = Bool} true false = sym (same-refl s) ∙ ap (same s) e ∙ h in
-    let o : _≡_ {A = ℕ} 0 1 = cc in omega arith
 
 pub length-differs : (s t : List ℕ) → (length s ≡ length t → ⊥) → false ≡ same s t
 length-differs s t h = go (same s t) refl

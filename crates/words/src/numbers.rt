@@ -32,7 +32,7 @@ pub fn wide_byte(x: u64, i: u32) -> u8
     ((x >> (8 * (i % 8))) % 256) as u8
 }
 
-// The same number, which its type bounds.
+// The same number: a call brings the bound of its type into the proof, which a struct's field does not.
 pub fn bounded(x: u32) -> u32
     ensures { λ r. ⌜ (r ≡ x) × (r < 2 ^ 32) ⌝ }
 {

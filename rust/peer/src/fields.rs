@@ -44,6 +44,16 @@ pub fn size(length: usize) -> usize {
     (length + 5).div_ceil(16) * 16
 }
 
+/// The fill that it needs.
+pub fn fill_needed(length: usize) -> usize {
+    size(length) - 5 - length
+}
+
+/// The bytes of one field.
+pub fn stored(kind: u8, data: &[u8], fill: &[u8]) -> Vec<u8> {
+    [&(data.len() as u32).to_le_bytes()[..], &[kind], data, fill].concat()
+}
+
 /// What a type's data should be.
 enum Shape {
     Uuid,
@@ -129,16 +139,14 @@ pub fn append(
     if kind == END && !data.is_empty() {
         return Err(13);
     }
-    let size = size(data.len());
-    if fill.len() != size - 5 - data.len() {
+    if fill.len() != fill_needed(data.len()) {
         return Err(12);
     }
-    let next = place + size;
+    let next = place + size(data.len());
     if next > buffer.len() || next > LONGEST_BODY {
         return Err(3);
     }
-    let field = [&(data.len() as u32).to_le_bytes()[..], &[kind], data, fill].concat();
-    buffer[place..next].copy_from_slice(&field);
+    buffer[place..next].copy_from_slice(&stored(kind, data, fill));
     Ok(next)
 }
 

@@ -2,6 +2,7 @@
 
 use crate::fields::{all, END};
 use crate::json::Json;
+use crate::safe::{Opened, Parts};
 use std::collections::BTreeMap;
 use std::path::PathBuf;
 
@@ -17,6 +18,20 @@ pub struct Saved {
     pub records: u64,
     pub answer: u32,
     pub listing: Listing,
+}
+
+impl Saved {
+    /// What it is made of, with the keys that were read from it.
+    pub fn parts(&self, opened: &Opened) -> Parts {
+        Parts {
+            passphrase: self.passphrase.clone(),
+            salt: self.file[4..36].try_into().unwrap(),
+            iter: self.iter,
+            k: opened.k,
+            l: opened.l,
+            iv: self.file[136..152].try_into().unwrap(),
+        }
+    }
 }
 
 /// The record types that a listing speaks of: group, title, user, notes, password, URL.

@@ -2,7 +2,7 @@
 
 use peer::body::judge;
 use peer::fields::{append, size, walk, Cursor, Value};
-use peer::safe::{read, write, Parts};
+use peer::safe::{read, write};
 use peer::saved::{files, listing_of};
 use peer::stretch::stretch;
 
@@ -70,14 +70,7 @@ fn files_saved_by_other_programs() {
         assert_eq!(opened.counts.header_fields, saved.header_fields, "{}", saved.name);
         assert_eq!(opened.counts.records, saved.records, "{}", saved.name);
         assert_eq!(listing_of(&opened.body), saved.listing, "{}", saved.name);
-        let parts = Parts {
-            passphrase: saved.passphrase,
-            salt: saved.file[4..36].try_into().unwrap(),
-            iter: saved.iter,
-            k: opened.k,
-            l: opened.l,
-            iv: saved.file[136..152].try_into().unwrap(),
-        };
-        assert!(write(&parts, &opened.body, saved.file.len()) == Ok(saved.file), "{}", saved.name);
+        let again = write(&saved.parts(&opened), &opened.body, saved.file.len());
+        assert!(again == Ok(saved.file), "{}", saved.name);
     }
 }

@@ -1,6 +1,6 @@
 //! Random bodies: well formed, and damaged in one way.
 
-use peer::fields::{size, END};
+use peer::fields::{fill_needed, stored, END};
 use peer::random::Random;
 
 /// A field before it is bytes.
@@ -14,14 +14,9 @@ pub fn part(kind: u8, data: &[u8]) -> Part {
     Part { kind, data: data.to_vec() }
 }
 
-/// The bytes of one field; the length need not be the data's.
 pub fn field(random: &mut Random, part: &Part) -> Vec<u8> {
-    let mut bytes = (part.data.len() as u32).to_le_bytes().to_vec();
-    bytes.push(part.kind);
-    bytes.extend_from_slice(&part.data);
-    let fill = size(part.data.len()) - bytes.len();
-    bytes.extend(random.bytes(fill));
-    bytes
+    let fill = random.bytes(fill_needed(part.data.len()));
+    stored(part.kind, &part.data, &fill)
 }
 
 pub fn join(random: &mut Random, parts: &[Part]) -> Vec<u8> {

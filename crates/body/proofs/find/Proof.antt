@@ -1,4 +1,4 @@
--- `find` meets its contract: the search runs on a well-formed body only.
+-- `body::find` meets its contract: the search runs on a well-formed body only.
 use mathlib.Core.Path.{sym, _∙_}
 use Rattle.body.specs.Find.{findOf}
 use borrow.Author.Needs.{needs}

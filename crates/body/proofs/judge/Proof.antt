@@ -1,4 +1,4 @@
--- `judge` meets its contract: with Version first the sections decide, without it nothing does.
+-- `body::judge` meets its contract: with Version first the sections decide, without it nothing does.
 use mathlib.Core.Path.{sym, _∙_}
 use Rattle.body.proofs.FirstField.{judged-version, judged-none}
 use borrow.Author.Needs.{needs}

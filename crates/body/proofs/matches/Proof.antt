@@ -1,4 +1,4 @@
--- `matches` meets its contract: the value is a UUID of these halves or it is none.
+-- `body::matches` meets its contract: the value is a UUID of these halves or it is none.
 use Rattle.text.proofs.Tests.{tests}
 use Rattle.body.proofs.Hunt.{else-uuid}
 use borrow.Author.Needs.{needs}

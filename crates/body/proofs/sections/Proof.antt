@@ -1,4 +1,4 @@
--- `sections` meets its contract: the loop keeps where the pass stands (Stands), and the place grows at each turn.
+-- `body::sections` meets its contract: the loop keeps where the pass stands (Stands), and the place grows at each turn.
 use Prim.Native.Nat.{_-_}
 use mathlib.Core.Path.{_≡_, sym, _∙_}
 use native.Mathlib.Omega.{arith}

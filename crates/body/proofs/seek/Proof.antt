@@ -1,4 +1,4 @@
--- `seek` meets its contract: the loop keeps that what the rest gives is what the body gives (Hunts), and the place grows at each turn.
+-- `body::seek` meets its contract: the loop keeps that what the rest gives is what the body gives (Hunts), and the place grows at each turn.
 use Prim.Native.Nat.{_-_}
 use mathlib.Core.Path.{_≡_, sym, _∙_}
 use native.Mathlib.Omega.{arith}

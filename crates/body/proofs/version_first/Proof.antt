@@ -1,4 +1,4 @@
--- `version_first` meets its contract: what the walk at the start gives says whether the first field is Version.
+-- `body::version_first` meets its contract: what the walk at the start gives says whether the first field is Version.
 use mathlib.Core.Path.{_≡_, sym, ap, _∙_}
 use native.Mathlib.Omega.{arith}
 use Rattle.text.proofs.Tests.{tests}

@@ -1,4 +1,4 @@
--- `well_formed` meets its contract: the counts are given exactly for a well-formed body.
+-- `body::well_formed` meets its contract: the counts are given exactly for a well-formed body.
 use mathlib.Core.Path.{sym, _∙_}
 use Rattle.body.proofs.Answers.{judged-counts, judged-not}
 use borrow.Author.Needs.{needs}

@@ -1,4 +1,4 @@
--- `cbc_decrypt`: `decipher` in the mode CBC.
+-- `chain::cbc_decrypt` meets its contract: `decipher` in the mode CBC.
 use Rattle.chain.specs.Blocks.{modeD}
 use borrow.Author.Needs.{needs}
 use Rattle.chain.proofs.cbc_decrypt.Statement.{statement}

@@ -1,4 +1,4 @@
--- `cbc_encrypt`: the text is copied, and `encipher` in the mode CBC goes over the copy.
+-- `chain::cbc_encrypt` meets its contract: the text is copied, and `encipher` in the mode CBC goes over the copy.
 use Rattle.chain.specs.Blocks.{modeE}
 use mathlib.Core.Path.{sym, ap}
 use lib.ListN.{length}

@@ -1,4 +1,4 @@
--- `ecb_decrypt`: `decipher` in the mode ECB.
+-- `chain::ecb_decrypt` meets its contract: `decipher` in the mode ECB.
 use Rattle.chain.specs.Blocks.{modeD}
 use borrow.Author.Needs.{needs}
 use Rattle.chain.proofs.ecb_decrypt.Statement.{statement}

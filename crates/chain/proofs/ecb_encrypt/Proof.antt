@@ -1,4 +1,4 @@
--- `ecb_encrypt`: `encipher` in the mode ECB.
+-- `chain::ecb_encrypt` meets its contract: `encipher` in the mode ECB.
 use Rattle.chain.specs.Blocks.{modeE}
 use borrow.Author.Needs.{needs}
 use Rattle.chain.proofs.ecb_encrypt.Statement.{statement}

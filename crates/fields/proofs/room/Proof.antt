@@ -1,4 +1,4 @@
--- `room` meets its contract: length, type, data and fill make up the field's blocks.
+-- `fields::room` meets its contract: length, type, data and fill make up the field's blocks.
 use Prim.Native.Nat.{_+_}
 use mathlib.Core.Path.{ap, _∙_}
 use borrow.Author.Needs.{needs}

@@ -1,4 +1,4 @@
--- `walk` meets its contract: the early returns are the tests of the definition, and the field and the cursor are made of what stands at the place.
+-- `fields::walk` meets its contract: the early returns are the tests of the definition, and the field and the cursor are made of what stands at the place.
 use Prim.Native.Nat.{ℕ, _+_}
 use mathlib.Core.Path.{_≡_, _∙_, sym, ap}
 use native.Mathlib.Nat.{add-sub-cancel-left}

@@ -1,5 +1,5 @@
 -- `file::bad_body` meets its contract, by the law of a length between two bounds.
-use Prim.Native.Nat.{_-_, _%_}
+use Prim.Native.Nat.{_%_}
 use lib.Dec.{eqb}
 use Rattle.file.specs.Writing.{badBody}
 use Rattle.file.proofs.SizeTests.{below, above, inside}

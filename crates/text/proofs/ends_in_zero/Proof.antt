@@ -1,4 +1,4 @@
--- `ends_in_zero` meets its contract: each return is the case of the chain that its tests pick.
+-- `text::ends_in_zero` meets its contract: each return is the case of the chain that its tests pick.
 use Rattle.text.proofs.Tests.{tests}
 use borrow.Author.Needs.{needs}
 use Rattle.text.proofs.ends_in_zero.Statement.{statement}

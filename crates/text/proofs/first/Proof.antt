@@ -1,4 +1,4 @@
--- `first` meets its contract: each return is the case of the chain that its tests pick.
+-- `text::first` meets its contract: each return is the case of the chain that its tests pick.
 use Rattle.text.proofs.Tests.{tests}
 use Rattle.text.proofs.first.Statement.{statement}
 use Rattle.text.proofs.first.Tie as tie

@@ -1,4 +1,4 @@
--- `is_text` meets its contract: each return is the case that the three answers before it pick.
+-- `text::is_text` meets its contract: each return is the case that the three answers before it pick.
 use borrow.Author.Needs.{needs}
 use Rattle.text.proofs.is_text.Statement.{statement}
 use Rattle.text.proofs.is_text.Tie as tie

@@ -1,4 +1,4 @@
--- `marked` meets its contract: each return is the case of the chain that its tests pick.
+-- `text::marked` meets its contract: each return is the case of the chain that its tests pick.
 use Rattle.text.proofs.Tests.{tests}
 use borrow.Author.Needs.{needs}
 use Rattle.text.proofs.marked.Statement.{statement}

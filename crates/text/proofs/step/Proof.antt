@@ -1,4 +1,4 @@
--- `step` meets its contract: each return is the case of the chain that its tests pick.
+-- `text::step` meets its contract: each return is the case of the chain that its tests pick.
 use borrow.Author.Needs.{needs}
 use Rattle.text.proofs.Tests.{tests}
 use Rattle.text.proofs.step.Statement.{statement}

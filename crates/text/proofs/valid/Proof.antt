@@ -1,4 +1,4 @@
--- `valid` meets its contract: the loop keeps that the run from here on is the run over the whole.
+-- `text::valid` meets its contract: the loop keeps that the run from here on is the run over the whole.
 use Prim.Native.Nat.{_≤_, _-_}
 use mathlib.Core.Path.{_≡_, _∙_, ap}
 use Rattle.text.proofs.Runs.{runs-step, runs-end}

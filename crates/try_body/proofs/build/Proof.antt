@@ -1,4 +1,4 @@
--- `build` is safe and ends: every index and sum in it is within its bounds.
+-- `try_body::build` is safe and ends: every index and sum in it is within its bounds.
 use mathlib.Core.Path.{_≡_}
 use Prim.Native.Nat.{_≤_, _-_}
 use lib.ListN.{length}

@@ -1,4 +1,4 @@
--- `repeats` is safe and ends: every index and sum in it is within its bounds.
+-- `try_body::repeats` is safe and ends: every index and sum in it is within its bounds.
 use Prim.Native.Nat.{_≤_, _-_}
 use borrow.Author.Needs.{needs}
 use Rattle.try_body.proofs.repeats.Statement.{statement}

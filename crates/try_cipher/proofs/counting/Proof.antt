@@ -1,4 +1,4 @@
--- `counting`: the loop stays within the text.
+-- `try_cipher::counting` is safe and ends: the loop stays within the text.
 use Prim.Native.Nat.{_≤_, _-_}
 use borrow.Author.Needs.{needs}
 use Rattle.try_cipher.proofs.counting.Statement.{statement}

@@ -1,4 +1,4 @@
--- `hex`: the loop stays within the slice.
+-- `try_cipher::hex` is safe and ends: the loop stays within the slice.
 use Prim.Native.Nat.{_≤_, _-_}
 use lib.ListN.{length}
 use borrow.Author.Needs.{needs}

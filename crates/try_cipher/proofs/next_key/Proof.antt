@@ -1,4 +1,4 @@
--- `next_key`: the loop stays within both arrays.
+-- `try_cipher::next_key` is safe and ends: the loop stays within both arrays.
 use Prim.Native.Nat.{_≤_, _-_}
 use borrow.Author.Needs.{needs}
 use Rattle.try_cipher.proofs.next_key.Statement.{statement}

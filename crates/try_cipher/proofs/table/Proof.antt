@@ -1,4 +1,4 @@
--- `table`: 49 turns.
+-- `try_cipher::table` is safe and ends: 49 turns.
 use Prim.Native.Nat.{_≤_, _-_}
 use borrow.Author.Needs.{needs}
 use Rattle.try_cipher.proofs.table.Statement.{statement}

@@ -1,4 +1,4 @@
--- `arena` meets its contract: a list of n copies is n long.
+-- `try_fields::arena` is safe and ends: a list of n copies is n long.
 use Rattle.try_fields.proofs.Many.{many}
 use Rattle.try_fields.proofs.arena.Statement.{statement}
 use Rattle.try_fields.proofs.arena.Tie as tie

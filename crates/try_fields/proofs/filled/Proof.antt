@@ -1,4 +1,4 @@
--- `filled` is safe and ends: every index and sum in it is within its bounds.
+-- `try_fields::filled` is safe and ends: every index and sum in it is within its bounds.
 use mathlib.Core.Path.{sym}
 use lib.Seq.{length-take-le}
 use borrow.Author.Needs.{needs}

@@ -1,4 +1,4 @@
--- `rows` is safe and ends: every index and sum in it is within its bounds.
+-- `try_fields::rows` is safe and ends: every index and sum in it is within its bounds.
 use Prim.Native.Nat.{_≤_, _-_}
 use borrow.Author.Needs.{needs}
 use Rattle.try_fields.proofs.rows.Statement.{statement}

@@ -1,4 +1,4 @@
--- `texts` is safe and ends: every index and sum in it is within its bounds.
+-- `try_fields::texts` is safe and ends: every index and sum in it is within its bounds.
 use Prim.Native.Nat.{_≤_, _-_}
 use lib.ListN.{length}
 use borrow.Author.Needs.{needs}

@@ -1,7 +1,8 @@
 //! The command line.
 
 use crate::trouble::Trouble;
-use std::ffi::OsString;
+use std::ffi::{OsStr, OsString};
+use std::os::unix::ffi::OsStrExt;
 use std::path::PathBuf;
 
 pub const HELP: &str = "\
@@ -10,12 +11,16 @@ talc reads Password Safe V3 files.
   talc check FILE         says whether the file is accepted, and what it holds
   talc list FILE          one line a login: title, user, group, expiry (UTC);
                           aligned on a terminal, else with tabs between
-  talc fields FILE        every field: place, type, length, kind of value, value
+  talc fields FILE        every field: place, type, length, kind of value, and
+                          value; UUIDs are among them
   talc find FILE UUID     the record with that UUID, and its fields
   talc resave FILE OUT    writes the file again to OUT with its own values, and
-                          says whether it is byte for byte the same
+                          says whether it is byte for byte the same; OUT is
+                          replaced if it is there, by a new file of mode 0600
+                          that is renamed over it
 
-Passwords, their history, two-factor keys, card data and QR codes are never shown.
+Passwords, their history, two-factor keys, card data and QR codes are never
+shown.
 
   --passphrase-file F     takes the passphrase from the file F
   --passphrase-stdin      takes the passphrase from standard input
@@ -25,11 +30,12 @@ Passwords, their history, two-factor keys, card data and QR codes are never show
                           times; 16777216 if not given, which takes some seconds
   --help, --version
   --                      what follows is no option
+                          (a value may also follow its option after =)
 
 Exit status: 0; 1 to 14, the number of the refusal; 64 wrong arguments;
 66 a file can't be read; 67 no record has that UUID; 70 written again, the file
-differs; 73 OUT can't be written; 74 standard output can't be written to;
-77 given up at the passphrase.
+differs; 73 OUT can't be written; 74 standard output can't be written to, though
+a pipe that its reader has closed is no error; 77 given up at the passphrase.
 ";
 
 /// Four times the largest number that Password Safe itself offers to set.
@@ -92,27 +98,41 @@ struct Sorted {
     version: bool,
 }
 
+/// An option's name, and the value that stands behind it after `=`.
+fn parted(argument: &OsStr) -> (&[u8], Option<OsString>) {
+    let bytes = argument.as_bytes();
+    match bytes.iter().position(|byte| *byte == b'=') {
+        Some(at) if bytes.starts_with(b"--") => {
+            (&bytes[..at], Some(OsStr::from_bytes(&bytes[at + 1..]).into()))
+        }
+        _ => (bytes, None),
+    }
+}
+
 impl Sorted {
     fn read(mut arguments: impl Iterator<Item = OsString>) -> Result<Sorted, Trouble> {
         let mut sorted = Sorted::default();
         while let Some(argument) = arguments.next() {
-            let mut value = |name: &str| {
-                let missing = || Trouble::usage(format!("{name} needs a value"));
-                arguments.next().ok_or_else(missing)
+            let (name, mut given) = parted(&argument);
+            let option = String::from_utf8_lossy(name);
+            let mut value = || {
+                let missing = || Trouble::usage(format!("{option} needs a value"));
+                given.take().or_else(|| arguments.next()).ok_or_else(missing)
             };
-            match argument.to_str() {
-                Some("--passphrase-file") => {
-                    sorted.passphrase_file = Some(value("--passphrase-file")?)
+            match name {
+                b"--passphrase-file" => sorted.passphrase_file = Some(value()?),
+                b"--passphrase-stdin" => sorted.passphrase_stdin = true,
+                b"--ceiling" => sorted.ceiling = Some(value()?),
+                b"--help" | b"-h" => sorted.help = true,
+                b"--version" => sorted.version = true,
+                b"--" => sorted.words.extend(arguments.by_ref()),
+                _ if name.starts_with(b"-") => {
+                    return Err(Trouble::usage(format!("there is no option {option}")));
                 }
-                Some("--passphrase-stdin") => sorted.passphrase_stdin = true,
-                Some("--ceiling") => sorted.ceiling = Some(value("--ceiling")?),
-                Some("--help" | "-h") => sorted.help = true,
-                Some("--version") => sorted.version = true,
-                Some("--") => sorted.words.extend(arguments.by_ref()),
-                Some(other) if other.starts_with('-') => {
-                    return Err(Trouble::usage(format!("there is no option {other}")));
-                }
-                _ => sorted.words.push(argument),
+                _ => sorted.words.push(argument.clone()),
+            }
+            if given.is_some() {
+                return Err(Trouble::usage(format!("{option} takes no value")));
             }
         }
         Ok(sorted)

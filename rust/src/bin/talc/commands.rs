@@ -1,6 +1,7 @@
 //! What each command does with a file.
 
 use crate::arguments::{Arguments, Command, HELP};
+use crate::secret::Secret;
 use crate::trouble::Trouble;
 use crate::{files, names, passphrase, progress, show};
 use std::fmt::Write;
@@ -17,20 +18,32 @@ pub fn run(arguments: &Arguments) -> Result<String, Trouble> {
     let path = &arguments.file;
     // One byte over the limit is enough for the refusal of longer files.
     let file = files::read(path, FILE_MAX + 1)?;
+    let mut workspace = Secret(vec![0; file.len().saturating_sub(AROUND)]);
+    let refused = |refusal: Refusal| Trouble::refused(path, refusal);
+    could_be_opened(&file, &mut workspace.0).map_err(refused)?;
     let passphrase = passphrase::get(&arguments.source)?;
-    let mut workspace = vec![0; file.len().saturating_sub(AROUND)];
     let what = format!("stretching the passphrase{}", rounds(&file));
     let (outcome, work) = progress::during(&what, || {
-        talcfeather::read_counted(&file, &passphrase, arguments.ceiling, &mut workspace)
+        talcfeather::read_counted(&file, &passphrase.0, arguments.ceiling, &mut workspace.0)
     });
-    let opened = outcome.map_err(|refusal| Trouble::refused(path, refusal))?;
-    let inside = |refusal: Refusal| Trouble::refused(path, refusal);
+    let opened = outcome.map_err(refused)?;
     match &arguments.command {
         Command::Check => Ok(check(path, &opened, work)),
-        Command::List => list(opened.body).map_err(inside),
-        Command::Find(uuid) => find(path, opened.body, uuid),
-        Command::Resave(out) => resave(&file, &passphrase, &opened, out),
-        _ => fields(opened.body).map_err(inside),
+        Command::List => list(opened.body).map_err(refused),
+        Command::Find(uuid) => {
+            find(opened.body, uuid).map_err(refused)?.ok_or_else(|| Trouble::no_record(path))
+        }
+        Command::Resave(out) => resave(&file, &passphrase.0, &opened, out),
+        _ => fields(opened.body).map_err(refused),
+    }
+}
+
+/// Refuses a file that no passphrase opens. Under a ceiling of 0 nothing is stretched: what is not
+/// refused as 1, 4 or 5 is 6.
+fn could_be_opened(file: &[u8], workspace: &mut [u8]) -> Result<(), Refusal> {
+    match talcfeather::read(file, b"", 0, workspace) {
+        Err(refusal) if refusal != Refusal::Ceiling => Err(refusal),
+        _ => Ok(()),
     }
 }
 
@@ -42,7 +55,7 @@ fn rounds(file: &[u8]) -> String {
 
 fn check(path: &Path, opened: &Opened, work: Work) -> String {
     format!(
-        "{}: accepted, {} header fields, {} records ({} compressions, {} blocks)\n",
+        "{}: accepted; header fields: {}, records: {}, compressions: {}, blocks: {}\n",
         path.display(),
         opened.header_fields,
         opened.records,
@@ -138,30 +151,29 @@ fn field_line(field: &Field, in_record: bool, body: &[u8]) -> String {
 
 fn fields(body: &[u8]) -> Result<String, Refusal> {
     let mut out = String::from("header\n");
+    let mut within = None;
     each_field(body, Cursor::START, |record, field| {
-        out += &field_line(&field, record.is_some(), body);
-        let next = record.map_or(0, |number| number + 1);
-        if field.kind == END && field.place + 16 < body.len() {
-            let _ = writeln!(out, "record {next}");
+        if let Some(number) = record.filter(|_| record != within) {
+            let _ = writeln!(out, "record {number}");
         }
+        within = record;
+        out += &field_line(&field, record.is_some(), body);
         true
     })?;
     Ok(out)
 }
 
-fn find(path: &Path, body: &[u8], uuid: &[u8; 16]) -> Result<String, Trouble> {
-    let inside = |refusal| Trouble::refused(path, refusal);
-    let found = talcfeather::find(body, uuid).map_err(inside)?;
-    let none = || Trouble::NoRecord(format!("{}: no record has that UUID", path.display()));
-    let found = found.ok_or_else(none)?;
+fn find(body: &[u8], uuid: &[u8; 16]) -> Result<Option<String>, Refusal> {
+    let Some(found) = talcfeather::find(body, uuid)? else {
+        return Ok(None);
+    };
     let mut out = format!("record {}\n", found.record);
     let at = Cursor { place: found.place, in_record: true };
     each_field(body, at, |_, field| {
         out += &field_line(&field, true, body);
         field.kind != END
-    })
-    .map_err(inside)?;
-    Ok(out)
+    })?;
+    Ok(Some(out))
 }
 
 fn resave(file: &[u8], passphrase: &[u8], opened: &Opened, out: &Path) -> Result<String, Trouble> {

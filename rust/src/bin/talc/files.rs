@@ -9,7 +9,8 @@ use std::path::{Path, PathBuf};
 
 /// At most that many bytes: no more are needed to see that a file is too long.
 pub fn read(path: &Path, limit: usize) -> Result<Vec<u8>, Trouble> {
-    let mut bytes = Vec::new();
+    // All at once, so that no copy of a passphrase is left behind where the bytes grew.
+    let mut bytes = Vec::with_capacity(limit);
     File::open(path)
         .and_then(|file| file.take(limit as u64).read_to_end(&mut bytes))
         .map_err(|error| Trouble::input(path, error))?;

@@ -6,6 +6,7 @@ mod files;
 mod names;
 mod passphrase;
 mod progress;
+mod secret;
 mod show;
 mod trouble;
 

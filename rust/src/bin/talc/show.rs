@@ -4,15 +4,16 @@ use talcfeather::{Field, Value};
 
 /// Control characters, and those that change the direction of a line.
 fn steers(c: char) -> bool {
-    let turns = matches!(c, '\u{200e}' | '\u{200f}' | '\u{2028}'..='\u{202e}');
+    let turns = matches!(c, '\u{61c}' | '\u{200e}' | '\u{200f}' | '\u{2028}'..='\u{202e}');
     c.is_control() || turns || matches!(c, '\u{2066}'..='\u{2069}')
 }
 
-/// Bytes as text; what could steer a terminal is written out.
+/// Bytes as text; what could steer a terminal is written out. So is a backslash, which then is
+/// never taken for the start of something written out.
 pub fn text(data: &[u8]) -> String {
     let mut shown = String::new();
     for c in String::from_utf8_lossy(data).chars() {
-        if steers(c) {
+        if steers(c) || c == '\\' {
             shown.extend(c.escape_default());
         } else {
             shown.push(c);
@@ -108,6 +109,12 @@ fn days() {
 #[test]
 fn texts() {
     assert_eq!(text("a\u{1b}[2J\n\u{202e}ä".as_bytes()), "a\\u{1b}[2J\\n\\u{202e}ä");
+    let turns = ['\u{61c}', '\u{200e}', '\u{200f}', '\u{202a}', '\u{202e}', '\u{2066}', '\u{2069}'];
+    for c in turns {
+        assert_eq!(text(c.to_string().as_bytes()), c.escape_unicode().to_string());
+    }
+    assert_eq!(text(b"a\n"), "a\\n");
+    assert_eq!(text(b"a\\n"), "a\\\\n");
     assert_eq!(text(&[b'a', 0xff]), "a\u{fffd}");
     assert_eq!(short("ä".repeat(61).as_bytes()), "ä".repeat(60) + "..");
 }

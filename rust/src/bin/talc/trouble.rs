@@ -38,6 +38,10 @@ impl Trouble {
         Trouble::Input(format!("{}: {error}", path.display()))
     }
 
+    pub fn no_record(path: &Path) -> Trouble {
+        Trouble::NoRecord(format!("{}: no record has that UUID", path.display()))
+    }
+
     pub fn create(path: &Path, error: io::Error) -> Trouble {
         Trouble::Create(format!("{}: {error}", path.display()))
     }
@@ -61,10 +65,26 @@ impl Trouble {
     }
 }
 
+/// What the office can do, where the library's advice is for its callers.
+fn advice(refusal: Refusal) -> &'static str {
+    match refusal {
+        Refusal::Length => "the file is cut or is no safe; copy it again",
+        Refusal::Iter => "save it with a current program",
+        Refusal::Ceiling => "raise --ceiling if the file can be trusted",
+        Refusal::Body => {
+            "copy it again; if it stays, give every entry a title and a password and save it again"
+        }
+        _ => refusal.advice(),
+    }
+}
+
 impl fmt::Display for Trouble {
     fn fmt(&self, f: &mut fmt::Formatter<'_>) -> fmt::Result {
         match self {
-            Trouble::Refused(path, refusal) => write!(f, "{path}: refused, {refusal}"),
+            Trouble::Refused(path, refusal) => {
+                let (number, meaning) = (refusal.number(), refusal.meaning());
+                write!(f, "{path}: refused, {number}: {meaning}: {}", advice(*refusal))
+            }
             Trouble::Usage(message) => write!(f, "{message}; try talc --help"),
             Trouble::GivenUp => write!(f, "given up"),
             Trouble::Input(message)

@@ -1,4 +1,4 @@
--- `first_place` meets its contract: each return is the case of the definition that its tests pick.
+-- `body::tally::first_place` meets its contract: each return is the case of the definition that its tests pick.
 use Rattle.text.proofs.Tests.{tests}
 use Rattle.body.proofs.tally.first_place.Statement.{statement}
 use Rattle.body.proofs.tally.first_place.Tie as tie

@@ -1,4 +1,4 @@
--- `header_field` meets its contract: each return is the case of the definition that its tests pick.
+-- `body::tally::header_field` meets its contract: each return is the case of the definition that its tests pick.
 use Rattle.text.proofs.Tests.{tests}
 use borrow.Author.Needs.{needs}
 use Rattle.body.proofs.tally.header_field.Statement.{statement}

@@ -1,4 +1,4 @@
--- `length_fits` meets its contract: each return is the case of the definition that its tests pick.
+-- `body::tally::length_fits` meets its contract: each return is the case of the definition that its tests pick.
 use Rattle.body.specs.Tally.{lengthFits}
 use Rattle.text.proofs.Tests.{tests}
 use Rattle.body.proofs.tally.length_fits.Statement.{statement}

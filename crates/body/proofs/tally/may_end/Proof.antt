@@ -1,4 +1,4 @@
--- `may_end` meets its contract: each return is the case of the definition that its tests pick.
+-- `body::tally::may_end` meets its contract: each return is the case of the definition that its tests pick.
 use borrow.Author.Needs.{needs}
 use Rattle.body.proofs.tally.may_end.Statement.{statement}
 use Rattle.body.proofs.tally.may_end.Tie as tie

@@ -1,4 +1,4 @@
--- `note` meets its contract: a type that may occur once has its place among the marks.
+-- `body::tally::note` meets its contract: a type that may occur once has its place among the marks.
 use Rattle.body.proofs.Sums.{small}
 use mathlib.Core.Path.{sym, _∙_}
 use borrow.Author.Needs.{needs}

@@ -1,4 +1,4 @@
--- `only_once` meets its contract: one computed test makes the lists of types the tests of the code, and each return is the case that its tests pick.
+-- `body::tally::only_once` meets its contract: one computed test makes the lists of types the tests of the code, and each return is the case that its tests pick.
 use Rattle.text.proofs.Tests.{tests}
 use Rattle.body.proofs.OnceTypes.{header-once, record-once}
 use Rattle.body.proofs.tally.only_once.Statement.{statement}

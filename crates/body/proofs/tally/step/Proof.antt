@@ -1,4 +1,4 @@
--- `step` meets its contract: an END ends the section, another field goes to it.
+-- `body::tally::step` meets its contract: an END ends the section, another field goes to it.
 use mathlib.Core.Path.{ap, _∙_}
 use borrow.Author.Tests.{eq-eqb, ne-eqb}
 use Rattle.body.specs.Tally.{emptySection}

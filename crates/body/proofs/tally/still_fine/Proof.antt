@@ -1,4 +1,4 @@
--- `still_fine` meets its contract: each return is the case that the answers before it pick.
+-- `body::tally::still_fine` meets its contract: each return is the case that the answers before it pick.
 use Rattle.body.proofs.Sums.{small}
 use mathlib.Core.Path.{sym, _∙_}
 use borrow.Author.Needs.{needs}

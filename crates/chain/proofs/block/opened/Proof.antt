@@ -1,4 +1,4 @@
--- `opened`: mode by mode, as its definition goes.
+-- `chain::block::opened` meets its contract: mode by mode, as its definition goes.
 use Rattle.chain.specs.Blocks.{openedBlock}
 use borrow.Author.Needs.{needs}
 use Rattle.chain.proofs.block.opened.Statement.{statement}

@@ -1,4 +1,4 @@
--- `seal`: the block is read, and the bytes of its cipher block are copied over it.
+-- `chain::block::seal` meets its contract: the block is read, and the bytes of its cipher block are copied over it.
 use Rattle.words.specs.Slices.{copied}
 use mathlib.Core.Path.{ap, _∙_}
 use borrow.Author.Needs.{needs}

@@ -1,4 +1,4 @@
--- `sealed`: mode by mode, as its definition goes.
+-- `chain::block::sealed` meets its contract: mode by mode, as its definition goes.
 use Rattle.chain.specs.Blocks.{sealedBlock}
 use borrow.Author.Needs.{needs}
 use Rattle.chain.proofs.block.sealed.Statement.{statement}

@@ -1,4 +1,4 @@
--- `start`: 16 bytes as words and back.
+-- `chain::block::start` meets its contract: 16 bytes as words and back.
 use native.Mathlib.Omega.{arith}
 use Rattle.words.specs.Numbers.{Bytes}
 use Rattle.words.proofs.ByteLaws.{bytes-of}

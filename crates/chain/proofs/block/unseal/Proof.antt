@@ -1,4 +1,4 @@
--- `unseal`: the block is read, and the bytes of its text are copied over it.
+-- `chain::block::unseal` meets its contract: the block is read, and the bytes of its text are copied over it.
 use Rattle.twofish.specs.Twofish.{bytesOf}
 use Rattle.words.specs.Slices.{copied}
 use mathlib.Core.Path.{ap, _∙_}

@@ -1,4 +1,4 @@
--- `decipher`: after j turns memory, block before and count stand at the definition's state after j steps.
+-- `chain::memory::decipher` meets its contract: after j turns memory, block before and count stand at the definition's state after j steps.
 use borrow.Author.Needs.{needs}
 use mathlib.Core.Path.{_≡_, refl, subst, fun-ext}
 use Prim.Native.Nat.{ℕ, _-_, _/_, _≤_}

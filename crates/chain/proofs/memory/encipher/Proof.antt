@@ -1,4 +1,4 @@
--- `encipher`: after j turns the memory has the definition's first j cipher blocks, and then what is left of the text.
+-- `chain::memory::encipher` meets its contract: after j turns the memory has the definition's first j cipher blocks, and then what is left of the text.
 use borrow.Author.Needs.{needs}
 use mathlib.Core.Path.{_≡_, refl, fun-ext}
 use Prim.Native.Nat.{_-_, _/_, _≤_}

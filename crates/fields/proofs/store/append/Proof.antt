@@ -1,4 +1,4 @@
--- `append` meets its contract: the early returns are the tests of the definition, and the field is written into the part that it takes.
+-- `fields::store::append` meets its contract: the early returns are the tests of the definition, and the field is written into the part that it takes.
 use Prim.Native.Nat.{_+_}
 use mathlib.Core.Path.{_≡_, refl, sym, ap, _∙_}
 use native.Mathlib.Omega.{arith}

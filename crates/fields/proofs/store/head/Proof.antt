@@ -1,4 +1,4 @@
--- `head` meets its contract: five stores make the four bytes of the length and the type.
+-- `fields::store::head` meets its contract: five stores make the four bytes of the length and the type.
 use Rattle.fields.proofs.Parts.{five}
 use lib.ListN.{length-set}
 use native.Mathlib.Omega.{arith}

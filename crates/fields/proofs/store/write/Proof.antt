@@ -1,4 +1,4 @@
--- `write` meets its contract: the head, the data and the fill each go into the part that is theirs.
+-- `fields::store::write` meets its contract: the head, the data and the fill each go into the part that is theirs.
 use Prim.Native.Nat.{_+_}
 use native.Mathlib.Nat.{add-sub-cancel-left}
 use lib.ListN.{length}

@@ -1,4 +1,4 @@
--- `flag` meets its contract: each return is the case of the definition that its tests pick.
+-- `fields::value::flag` meets its contract: each return is the case of the definition that its tests pick.
 use Rattle.text.proofs.Tests.{tests}
 use borrow.Author.Needs.{needs}
 use Rattle.fields.proofs.value.flag.Statement.{statement}

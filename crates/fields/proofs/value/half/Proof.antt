@@ -1,4 +1,4 @@
--- `half` meets its contract: two bytes and two zeros make the number of two bytes.
+-- `fields::value::half` meets its contract: two bytes and two zeros make the number of two bytes.
 use mathlib.Core.Path.{_≡_, ap, _∙_}
 use lib.ListN.{length}
 use borrow.Author.Tests.{eq-eqb}

@@ -1,4 +1,4 @@
--- `header_shape` meets its contract: one computed test makes the lists of types the tests of the code, and each return is the case that its tests pick.
+-- `fields::value::header_shape` meets its contract: one computed test makes the lists of types the tests of the code, and each return is the case that its tests pick.
 use Rattle.text.proofs.Tests.{tests}
 use Rattle.fields.proofs.Shapes.{header}
 use Rattle.fields.proofs.value.header_shape.Statement.{statement}

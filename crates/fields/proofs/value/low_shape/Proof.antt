@@ -1,4 +1,4 @@
--- `low_shape` meets its contract: by the computed test of Shapes.antt the lists of types are the tests of the code, and each return is the case that its tests pick.
+-- `fields::value::low_shape` meets its contract: by the computed test of Shapes.antt the lists of types are the tests of the code, and each return is the case that its tests pick.
 use Rattle.text.proofs.Tests.{tests}
 use Rattle.fields.proofs.Shapes.{low-type}
 use Rattle.fields.proofs.value.low_shape.Statement.{statement}

@@ -1,4 +1,4 @@
--- `plain` meets its contract: each return is the case that the answers before it pick.
+-- `fields::value::plain` meets its contract: each return is the case that the answers before it pick.
 
 use borrow.Author.Needs.{needs}
 use Rattle.fields.proofs.value.plain.Statement.{statement}

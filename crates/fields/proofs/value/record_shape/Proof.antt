@@ -1,4 +1,4 @@
--- `record_shape` meets its contract: by the computed test of Shapes.antt the lists of types are the tests of the code, and each return is the case that its tests pick.
+-- `fields::value::record_shape` meets its contract: by the computed test of Shapes.antt the lists of types are the tests of the code, and each return is the case that its tests pick.
 use borrow.Author.Needs.{needs}
 use Rattle.text.proofs.Tests.{tests}
 use Rattle.fields.proofs.Shapes.{record-type}

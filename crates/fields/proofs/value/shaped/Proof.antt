@@ -1,4 +1,4 @@
--- `shaped` meets its contract: each arm returns what its callee ensures.
+-- `fields::value::shaped` meets its contract: each arm returns what its callee ensures.
 use borrow.Author.Needs.{needs}
 use Rattle.fields.proofs.value.shaped.Statement.{statement}
 use Rattle.fields.proofs.value.shaped.Tie as tie

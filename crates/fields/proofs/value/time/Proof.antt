@@ -1,4 +1,4 @@
--- `time` meets its contract: a list of four bytes is what stands at its four indices.
+-- `fields::value::time` meets its contract: a list of four bytes is what stands at its four indices.
 use mathlib.Core.Path.{_≡_, ap, _∙_}
 use lib.ListN.{length}
 use borrow.Author.Tests.{eq-eqb}

@@ -1,4 +1,4 @@
--- `uuid` meets its contract: each half is two words, one after the other.
+-- `fields::value::uuid` meets its contract: each half is two words, one after the other.
 use mathlib.Core.Path.{_≡_}
 use lib.ListN.{length}
 use borrow.Author.Tests.{eq-eqb}

@@ -1,4 +1,4 @@
--- `value_of` meets its contract: each return is the case that the answers before it pick.
+-- `fields::value::value_of` meets its contract: each return is the case that the answers before it pick.
 use lib.ListN.{length}
 use lib.Dec.{eqb}
 use mathlib.Core.Bool.{false}

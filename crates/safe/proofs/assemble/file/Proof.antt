@@ -1,9 +1,8 @@
 -- `safe::assemble::file` meets its contract: the head, the body behind it, and where no block is the marker the rest.
 use Rattle.safe.proofs.V3Laws.{hmac-sized}
-use Prim.Native.Nat.{_≤_}
+use Prim.Native.Nat.{_≤_, ℕ, _+_, _-_}
 use mathlib.Core.Path.{_≡_, refl, ap, _∙_}
 use mathlib.Core.List.{List, _++_}
-use Prim.Native.Nat.{ℕ, _+_, _-_}
 use native.Mathlib.Omega.{arith}
 use denote.Ref.{now}
 use lib.ListN.{length, take, drop}

@@ -1,17 +1,15 @@
 -- `safe::open::open` meets its contract: the stretcher's states are the definition's, and so are its check and what follows.
 use Rattle.safe.specs.V3.{v3, stretchedV3}
-use Rattle.file.specs.Reading.{keyK, keyL, bodyOf, judged}
-use lib.ListN.{length}
+use Rattle.file.specs.Reading.{keyK, keyL, bodyOf, judged, refused}
+use lib.ListN.{length, take, drop}
 use Prim.Native.Nat.{ℕ, _-_, _/_}
 use mathlib.Core.Path.{sym, ap, _∙_}
 use mathlib.Core.List.{List}
 use denote.Ref.{now}
-use lib.ListN.{take, drop}
 use Rattle.words.specs.Numbers.{numberLow}
 use Rattle.words.specs.Slices.{same}
 use Rattle.stretch.specs.Stretch.{startOf, stretchedOf}
 use Rattle.file.specs.Layout.{split}
-use Rattle.file.specs.Reading.{refused}
 use Rattle.safe.proofs.Verdicts.{stretched-is, checked-passed, checked-failed, reports-as, refused-reports}
 use borrow.Author.Needs.{needs}
 use Rattle.safe.proofs.open.open.Statement.{statement}

@@ -1,7 +1,7 @@
 -- `talcfeather::walk::value_numbers` meets its contract, case by case.
 use mathlib.Core.Path.{sym, ap, _∙_}
 use mathlib.Core.List.{[], _∷_}
-use Rattle.talcfeather.specs.Walk.{valueNumbers}
+use Rattle.fields.specs.Value.{valueNumbers}
 use borrow.Author.Needs.{needs}
 use Rattle.talcfeather.proofs.walk.value_numbers.Statement.{statement}
 use Rattle.talcfeather.proofs.walk.value_numbers.Tie as tie

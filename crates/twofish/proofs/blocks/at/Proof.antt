@@ -1,4 +1,4 @@
--- `at`: past its end a list gives 0.
+-- `twofish::blocks::at` meets its contract: past its end a list gives 0.
 use mathlib.Core.Path.{sym}
 use lib.ListN.{List·getD-eq-default}
 use borrow.Author.Needs.{needs}

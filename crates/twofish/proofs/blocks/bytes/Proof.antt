@@ -1,4 +1,4 @@
--- `bytes`: byte by byte.
+-- `twofish::blocks::bytes` meets its contract: byte by byte.
 use Rattle.twofish.proofs.Inverse.{sixteen}
 use borrow.Author.Needs.{needs}
 use Rattle.twofish.proofs.blocks.bytes.Statement.{statement}

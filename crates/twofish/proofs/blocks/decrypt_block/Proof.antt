@@ -1,4 +1,4 @@
--- `decrypt_block`: the cipher on four words, with what the key makes of the tables.
+-- `twofish::blocks::decrypt_block` meets its contract: the cipher on four words, with what the key makes of the tables.
 use Rattle.twofish.specs.Twofish.{bytesOf, decryptBlock, decryptWords}
 use Rattle.twofish.specs.declared.Block.{Block}
 use Rattle.twofish.proofs.Keyed.{decrypts}

@@ -1,4 +1,4 @@
--- `encrypt_block`: the cipher on four words, with what the key makes of the tables.
+-- `twofish::blocks::encrypt_block` meets its contract: the cipher on four words, with what the key makes of the tables.
 use Rattle.twofish.specs.Twofish.{bytesOf, encryptBlock, encryptWords}
 use Rattle.twofish.specs.declared.Block.{Block}
 use Rattle.twofish.proofs.Keyed.{encrypts}

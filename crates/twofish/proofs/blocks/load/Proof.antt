@@ -1,4 +1,4 @@
--- `load`: word by word.
+-- `twofish::blocks::load` meets its contract: word by word.
 use Rattle.twofish.specs.Twofish.{blockOf}
 use borrow.Author.Needs.{needs}
 use Rattle.twofish.proofs.blocks.load.Statement.{statement}

@@ -1,4 +1,4 @@
--- `word`: byte by byte.
+-- `twofish::blocks::word` meets its contract: byte by byte.
 use borrow.Author.Needs.{needs}
 use Rattle.twofish.proofs.blocks.word.Statement.{statement}
 use Rattle.twofish.proofs.blocks.word.Tie as tie

@@ -1,4 +1,4 @@
--- `decrypt`: what is left of the definition's 16 rounds back, with i still to go, ends in the same block.
+-- `twofish::cipher::decrypt` meets its contract: what is left of the definition's 16 rounds back, with i still to go, ends in the same block.
 use Rattle.twofish.specs.Cipher.{unround, unrounds, decrypt}
 use Rattle.twofish.specs.declared.Block.{Block}
 use Rattle.twofish.specs.Table.{at}

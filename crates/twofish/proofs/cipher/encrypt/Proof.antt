@@ -1,4 +1,4 @@
--- `encrypt`: after i turns the loop holds the definition's first i rounds.
+-- `twofish::cipher::encrypt` meets its contract: after i turns the loop holds the definition's first i rounds.
 use Rattle.twofish.specs.Cipher.{rounds, encrypt}
 use Rattle.twofish.specs.Table.{at}
 use Rattle.twofish.specs.Key.{h}

@@ -1,4 +1,4 @@
--- `round`: as its definition goes.
+-- `twofish::cipher::round` meets its contract: as its definition goes.
 use Rattle.twofish.specs.Cipher.{F0, F1, round}
 use borrow.Author.Needs.{needs}
 use Rattle.twofish.proofs.cipher.round.Statement.{statement}

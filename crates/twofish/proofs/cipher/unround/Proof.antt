@@ -1,4 +1,4 @@
--- `unround`: as its definition goes.
+-- `twofish::cipher::unround` meets its contract: as its definition goes.
 use Rattle.twofish.specs.Cipher.{F0, F1, unround}
 use borrow.Author.Needs.{needs}
 use Rattle.twofish.proofs.cipher.unround.Statement.{statement}

@@ -1,4 +1,4 @@
--- `whiten`: by its definition.
+-- `twofish::cipher::whiten` meets its contract: by its definition.
 use Rattle.twofish.specs.Cipher.{whiten}
 use mathlib.Core.Path.{refl}
 use borrow.Author.Needs.{needs}

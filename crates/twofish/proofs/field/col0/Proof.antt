@@ -1,4 +1,4 @@
--- `col0`: byte by byte.
+-- `twofish::field::col0` meets its contract: byte by byte.
 use Rattle.twofish.specs.Columns.{col0}
 use borrow.Author.Needs.{needs}
 use Rattle.twofish.proofs.field.col0.Statement.{statement}

@@ -1,4 +1,4 @@
--- `col1`: byte by byte.
+-- `twofish::field::col1` meets its contract: byte by byte.
 use Rattle.twofish.specs.Columns.{col1}
 use borrow.Author.Needs.{needs}
 use Rattle.twofish.proofs.field.col1.Statement.{statement}

@@ -1,4 +1,4 @@
--- `col2`: byte by byte.
+-- `twofish::field::col2` meets its contract: byte by byte.
 use Rattle.twofish.specs.Columns.{col2}
 use borrow.Author.Needs.{needs}
 use Rattle.twofish.proofs.field.col2.Statement.{statement}

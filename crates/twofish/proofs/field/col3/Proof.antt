@@ -1,4 +1,4 @@
--- `col3`: byte by byte.
+-- `twofish::field::col3` meets its contract: byte by byte.
 use Rattle.twofish.specs.Columns.{col3}
 use borrow.Author.Needs.{needs}
 use Rattle.twofish.proofs.field.col3.Statement.{statement}

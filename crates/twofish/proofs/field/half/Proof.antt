@@ -1,4 +1,4 @@
--- `half`: an even byte and an odd one, as the definition has them.
+-- `twofish::field::half` meets its contract: an even byte and an odd one, as the definition has them.
 use Rattle.twofish.specs.Columns.{half}
 use borrow.Author.Tests.{eq-eqb, ne-eqb}
 use Rattle.twofish.proofs.field.half.Statement.{statement}

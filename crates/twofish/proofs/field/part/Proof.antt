@@ -1,4 +1,4 @@
--- `part`: the remainder is 0 or 1.
+-- `twofish::field::part` meets its contract: the remainder is 0 or 1.
 use mathlib.Core.Path.{_≡_, sym, ap, _∙_}
 use Prim.Native.Nat.{ℕ, _*_, _%_}
 use native.Mathlib.Nat.{zero-mul, one-mul}

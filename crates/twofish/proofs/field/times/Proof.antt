@@ -1,4 +1,4 @@
--- `times`: the sum so far and what is left of the definition's sum, with n bits still to go, make the product.
+-- `twofish::field::times` meets its contract: the sum so far and what is left of the definition's sum, with n bits still to go, make the product.
 use Rattle.twofish.specs.Field.{_⊕_, gf, times, twice}
 use Rattle.words.proofs.XorLaws.{xor-assoc}
 use lib.Bits.{xor-zero-r}

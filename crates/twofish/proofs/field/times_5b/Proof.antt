@@ -1,4 +1,4 @@
--- `times_5b`: computed at every byte.
+-- `twofish::field::times_5b` meets its contract: computed at every byte.
 use Rattle.twofish.proofs.ColumnSums.{is-5b}
 use borrow.Author.Needs.{needs}
 use Rattle.twofish.proofs.field.times_5b.Statement.{statement}

@@ -1,4 +1,4 @@
--- `times_ef`: computed at every byte.
+-- `twofish::field::times_ef` meets its contract: computed at every byte.
 use Rattle.twofish.proofs.ColumnSums.{is-ef}
 use borrow.Author.Needs.{needs}
 use Rattle.twofish.proofs.field.times_ef.Statement.{statement}

@@ -1,4 +1,4 @@
--- `twice`: computed at every byte.
+-- `twofish::field::twice` meets its contract: computed at every byte.
 use Rattle.twofish.specs.Field.{_⊕_, twice}
 use Rattle.words.proofs.Every.{agree}
 use mathlib.Core.Path.{_≡_, sym}

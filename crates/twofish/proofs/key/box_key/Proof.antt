@@ -1,4 +1,4 @@
--- `box_key`: word by word.
+-- `twofish::key::box_key` meets its contract: word by word.
 use Rattle.twofish.specs.Key.{boxKey}
 use mathlib.Core.Path.{refl}
 use borrow.Author.Needs.{needs}

@@ -1,4 +1,4 @@
--- `every_other`: after k turns the first k places hold their bytes of the key.
+-- `twofish::key::every_other` meets its contract: after k turns the first k places hold their bytes of the key.
 use Rattle.twofish.specs.Table.{at}
 use Rattle.twofish.proofs.Listed.{more, is-table}
 use mathlib.Core.Path.{_≡_, refl}

@@ -1,4 +1,4 @@
--- `h`: the sum of the four columns is the product with the matrix.
+-- `twofish::key::h` meets its contract: the sum of the four columns is the product with the matrix.
 use Rattle.twofish.specs.Key.{h}
 use Rattle.twofish.proofs.ColumnSums.{columns}
 use borrow.Author.Needs.{needs}

@@ -1,4 +1,4 @@
--- `rs`: eight products, summed as the definition goes.
+-- `twofish::key::rs` meets its contract: eight products, summed as the definition goes.
 use Rattle.twofish.specs.Field.{_⊕_}
 use mathlib.Core.Path.{ap₂}
 use borrow.Author.Needs.{needs}

@@ -1,4 +1,4 @@
--- `subkeys`: after i turns the first 2 i places hold the definition's subkeys.
+-- `twofish::key::subkeys` meets its contract: after i turns the first 2 i places hold the definition's subkeys.
 use Rattle.twofish.specs.Table.{at, table}
 use Rattle.twofish.specs.Key.{evens, odds, subkey, subkeys}
 use Rattle.twofish.proofs.Listed.{more, is-table}

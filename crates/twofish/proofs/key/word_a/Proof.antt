@@ -1,4 +1,4 @@
--- `word_a`: by its definition.
+-- `twofish::key::word_a` meets its contract: by its definition.
 use Rattle.twofish.specs.Key.{wordA}
 use borrow.Author.Needs.{needs}
 use Rattle.twofish.proofs.key.word_a.Statement.{statement}

@@ -1,4 +1,4 @@
--- `word_b`: by its definition.
+-- `twofish::key::word_b` meets its contract: by its definition.
 use Rattle.twofish.specs.Key.{wordB}
 use borrow.Author.Needs.{needs}
 use Rattle.twofish.proofs.key.word_b.Statement.{statement}

@@ -1,4 +1,4 @@
--- `y0`: table by table, as its definition goes.
+-- `twofish::key::y0` meets its contract: table by table, as its definition goes.
 use Rattle.twofish.specs.Key.{y0}
 use borrow.Author.Needs.{needs}
 use Rattle.twofish.proofs.key.y0.Statement.{statement}

@@ -1,4 +1,4 @@
--- `y1`: table by table, as its definition goes.
+-- `twofish::key::y1` meets its contract: table by table, as its definition goes.
 use Rattle.twofish.specs.Key.{y1}
 use borrow.Author.Needs.{needs}
 use Rattle.twofish.proofs.key.y1.Statement.{statement}

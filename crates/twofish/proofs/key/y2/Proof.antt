@@ -1,4 +1,4 @@
--- `y2`: table by table, as its definition goes.
+-- `twofish::key::y2` meets its contract: table by table, as its definition goes.
 use Rattle.twofish.specs.Key.{y2}
 use borrow.Author.Needs.{needs}
 use Rattle.twofish.proofs.key.y2.Statement.{statement}

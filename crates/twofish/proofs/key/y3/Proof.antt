@@ -1,4 +1,4 @@
--- `y3`: table by table, as its definition goes.
+-- `twofish::key::y3` meets its contract: table by table, as its definition goes.
 use Rattle.twofish.specs.Key.{y3}
 use borrow.Author.Needs.{needs}
 use Rattle.twofish.proofs.key.y3.Statement.{statement}

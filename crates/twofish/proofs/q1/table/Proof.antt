@@ -1,4 +1,4 @@
--- `table`: one computed test of the code's table.
+-- `twofish::q1::table` meets its contract: one computed test of the code's table.
 use Rattle.twofish.specs.Q.{rule1, table1}
 use Rattle.words.specs.Rotation.{rotateRight}
 use Rattle.twofish.proofs.Permutations.{follows}

@@ -2,7 +2,7 @@
 use Prim.Native.Nat.{ℕ, _+_, _-_, _/_, _≤_}
 use mathlib.Core.Path.{_≡_}
 use mathlib.Core.List.{List, _++_}
-use lib.ListN.{length, take, drop}
+use lib.ListN.{length}
 use Rattle.words.specs.Numbers.{Bytes, numberLow}
 use Rattle.words.specs.Slices.{zeros}
 use Rattle.sha256.specs.Sha256.{sha256}
@@ -10,8 +10,7 @@ use Rattle.stretch.specs.Stretch.{startOf, stretchedOf, keyOf}
 use Rattle.chain.specs.Opening.{Opening}
 use Rattle.file.specs.Layout.{split}
 use Rattle.file.specs.Reading.{keyK, keyL, bodyOf, readingOf}
-use Rattle.file.specs.Writing.{writingOf}
-use Rattle.file.proofs.Written.{Values}
+use Rattle.file.specs.Writing.{writingOf, Values}
 use Rattle.safe.specs.V3.{v3, stretchedV3}
 use Rattle.safe.specs.Answers.{outcomeNumber, writtenNumber}
 use Rattle.safe.specs.Steps.{Reports}
@@ -20,22 +19,22 @@ use Rattle.safe.specs.declared.Written.{Written}
 
 -- What stands in a file (document 01, "The file, by offset"), and n, the blocks of its body.
 abbrev pub saltIn : List ℕ → List ℕ
-saltIn file = take 32 (drop 4 file)
+saltIn file = split file .salt
 
 abbrev pub iterIn : List ℕ → ℕ
-iterIn file = numberLow (take 4 (drop 36 file))
+iterIn file = numberLow (split file .iter)
 
 abbrev pub checkIn : List ℕ → List ℕ
-checkIn file = take 32 (drop 40 file)
+checkIn file = split file .check
 
 abbrev pub ivIn : List ℕ → List ℕ
-ivIn file = take 16 (drop 136 file)
+ivIn file = split file .iv
 
 abbrev pub encryptedIn : List ℕ → List ℕ
-encryptedIn file = take (length file - 200) (drop 152 file)
+encryptedIn file = split file .cipher
 
 abbrev pub macIn : List ℕ → List ℕ
-macIn file = drop (length file - 32) file
+macIn file = split file .mac
 
 abbrev pub blocksIn : List ℕ → ℕ
 blocksIn file = (length file - 200) / 16
