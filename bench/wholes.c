@@ -50,7 +50,7 @@ void make_body(size_t length, size_t notes, int small)
         if (notes > 0)
             add(0x05, message, notes);
         for (int i = 0; i < small; i++)
-            add(0x04, "user", 4);
+            add(0x02, "user", 4); /* Text in a record, and it would be in the header */
         add(0xff, NULL, 0);
     }
 }
