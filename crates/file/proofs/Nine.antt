@@ -7,11 +7,10 @@ use mathlib.Core.List.{List}
 use lib.ListN.{length}
 use borrow.Author.Tests.{not-false}
 use Rattle.words.specs.Numbers.{Bytes, numberLow}
-use Rattle.words.specs.Slices.{same}
-use Rattle.words.proofs.SliceLaws.{same-refl, same-true}
-use Rattle.file.specs.Layout.{Parts, split, differ}
+use Rattle.file.specs.Layout.{Parts, split}
 use Rattle.file.specs.Edition.{Edition, Laws, Stretched}
 use Rattle.file.specs.Reading.{keyL, bodyOf, readingOf}
+use Rattle.file.proofs.Glue.{same-of, same-is}
 use Rattle.file.proofs.Passed.{Late, Matches, Whole, early}
 use Rattle.file.proofs.Decrypted.{whole-body}
 use Rattle.file.proofs.Ends as Ends
@@ -38,14 +37,14 @@ module _ (E : Edition) (X : Laws E) (file pass : List ℕ) (ceiling room : ℕ) 
       let t = X .decides body d b in
       record {
         fine = ap not (t .0);
-        mac = ap (λ (x : List ℕ). differ x (p .mac)) (ap (E .hmac (keyL E p s)) (t .1) ∙ e) ∙ ap not (same-refl (p .mac));
+        mac = same-is _ (p .mac) (ap (E .hmac (keyL E p s)) (t .1) ∙ e);
       }
 
   described : Bytes body → Whole E p s n → Described
   described bb w = (
     E .covered body,
     X .describes body bb (not-false (E .wellFormed body) (w .fine)),
-    same-true (E .hmac (keyL E p s) (E .covered body)) (p .mac) (not-false (same (E .hmac (keyL E p s) (E .covered body)) (p .mac)) (w .mac)),
+    same-of (E .hmac (keyL E p s) (E .covered body)) (p .mac) (w .mac),
   )
 
   pub nine : Late (readingOf E file pass ceiling room .number) → Matches p s → (readingOf E file pass ceiling room .number ≡ 9) ↔ (Described → ⊥)
