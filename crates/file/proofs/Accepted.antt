@@ -108,15 +108,15 @@ module _ (E : Edition) (X : Laws E) where
 
     -- the parts are those of the safe
     parts-are : p .tag ≡ tag → p .iter ≡ bytesLow 4 (numberLow (p .iter)) → p .check ≡ s .check
-        → p .keys ≡ wrapped E (s .key) (keyK E p s) (keyL E p s)
-        → p .cipher ≡ cbc E (keyK E p s) (p .iv) (bodyOf E p s n .done)
-        → p .marker ≡ marker → p .mac ≡ E .hmac (keyL E p s) (E .covered (bodyOf E p s n .done))
-        → p ≡ partsOf E pass (p .salt) (numberLow (p .iter)) (keyK E p s) (keyL E p s) (p .iv) (bodyOf E p s n .done) (E .covered (bodyOf E p s n .done))
+        → p .keys ≡ wrapped E (s .key) (keyK E p (s .key)) (keyL E p (s .key))
+        → p .encrypted ≡ cbc E (keyK E p (s .key)) (p .iv) (bodyOf E p (s .key) n .done)
+        → p .marker ≡ marker → p .mac ≡ E .hmac (keyL E p (s .key)) (E .covered (bodyOf E p (s .key) n .done))
+        → p ≡ partsOf E pass (p .salt) (numberLow (p .iter)) (keyK E p (s .key)) (keyL E p (s .key)) (p .iv) (bodyOf E p (s .key) n .done) (E .covered (bodyOf E p (s .key) n .done))
     unfolding partsOf
-    parts-are a b c d e f g = λ i. record { tag = a i; salt = p .salt; iter = b i; check = c i; keys = d i; iv = p .iv; cipher = e i; marker = f i; mac = g i }
+    parts-are a b c d e f g = λ i. record { tag = a i; salt = p .salt; iter = b i; check = c i; keys = d i; iv = p .iv; encrypted = e i; marker = f i; mac = g i }
 
     pub safe : Early E p n file pass ceiling room → Matches p s → Whole E p s n
-        → IsSafe E pass file (p .salt) (numberLow (p .iter)) (keyK E p s) (keyL E p s) (p .iv) (bodyOf E p s n .done)
+        → IsSafe E pass file (p .salt) (numberLow (p .iter)) (keyK E p (s .key)) (keyL E p (s .key)) (p .iv) (bodyOf E p (s .key) n .done)
     unfolding fileOf wrapped
     safe e m w =
         let g = good-length (length file) (e .t1) in
@@ -126,16 +126,16 @@ module _ (E : Edition) (X : Laws E) where
         let hs = X .key-sized pass (p .salt) (numberLow (p .iter)) in
         let hiv : Sized 16 (p .iv) = record { long = l .iv-long; bytes = b .iv-bytes } in
         let hkeys : Sized 64 (p .keys) = record { long = l .keys-long; bytes = b .keys-bytes } in
-        let hc : Sized (16 * n) (p .cipher) = record { long = l .cipher-long ∙ whole; bytes = b .cipher-bytes } in
+        let hc : Sized (16 * n) (p .encrypted) = record { long = l .encrypted-long ∙ whole; bytes = b .encrypted-bytes } in
         let hk = keys-sized (s .key) hs (p .keys) hkeys in
-        let hK : Sized 32 (keyK E p s) = sized-take 32 64 (keysOpened E (s .key) (p .keys) .done) (lit≤ tt) hk in
-        let hL : Sized 32 (keyL E p s) = sized-drop 32 64 32 (keysOpened E (s .key) (p .keys) .done) refl hk in
+        let hK : Sized 32 (keyK E p (s .key)) = sized-take 32 64 (keysOpened E (s .key) (p .keys) .done) (lit≤ tt) hk in
+        let hL : Sized 32 (keyL E p (s .key)) = sized-drop 32 64 32 (keysOpened E (s .key) (p .keys) .done) refl hk in
         let count = keysOpened E (s .key) (p .keys) .count in
-        let hb : Sized (16 * n) (bodyOf E p s n .done) = body-sized (keyK E p s) hK (p .iv) hiv count n (p .cipher) hc in
-        let blocks : length (bodyOf E p s n .done) / 16 ≡ n = omega (arith, hb .long) in
-        let ec : cbc E (keyK E p s) (p .iv) (bodyOf E p s n .done) ≡ p .cipher = body-again (keyK E p s) hK (p .iv) hiv count n (p .cipher) hc in
+        let hb : Sized (16 * n) (bodyOf E p (s .key) n .done) = body-sized (keyK E p (s .key)) hK (p .iv) hiv count n (p .encrypted) hc in
+        let blocks : length (bodyOf E p (s .key) n .done) / 16 ≡ n = omega (arith, hb .long) in
+        let ec : cbc E (keyK E p (s .key)) (p .iv) (bodyOf E p (s .key) n .done) ≡ p .encrypted = body-again (keyK E p (s .key)) hK (p .iv) hiv count n (p .encrypted) hc in
         let first : firstMarker (n + 3) (drop 152 file) ≡ n = eqb-true (firstMarker (n + 3) (drop 152 file)) n (not-false (eqb (firstMarker (n + 3) (drop 152 file)) n) (e .t7)) in
-        let mk = marker-found n (n + 3) (p .cipher) (p .marker) (p .mac) refl (hc .long) (l .marker-long) (rw (tail-split file (omega arith)) at first) in
+        let mk = marker-found n (n + 3) (p .encrypted) (p .marker) (p .mac) refl (hc .long) (l .marker-long) (rw (tail-split file (omega arith)) at first) in
         record {
           passphrase-fits = ltb-false 1024 (length pass) (e .t2);
           salt-sized = record { long = l .salt-long; bytes = b .salt-bytes };
@@ -148,14 +148,14 @@ module _ (E : Edition) (X : Laws E) where
           body-least = omega (arith, hb .long);
           body-most = omega (arith, hb .long);
           body-whole = omega (arith, hb .long);
-          covered = E .covered (bodyOf E p s n .done);
-          well-formed = X .describes (bodyOf E p s n .done) (hb .bytes) (not-false (E .wellFormed (bodyOf E p s n .done)) (w .fine));
-          no-marker = clear-each (length (bodyOf E p s n .done) / 16) (cbc E (keyK E p s) (p .iv) (bodyOf E p s n .done)) (rw (blocks, ec) (mk .0));
+          covered = E .covered (bodyOf E p (s .key) n .done);
+          well-formed = X .describes (bodyOf E p (s .key) n .done) (hb .bytes) (not-false (E .wellFormed (bodyOf E p (s .key) n .done)) (w .fine));
+          no-marker = clear-each (length (bodyOf E p (s .key) n .done) / 16) (cbc E (keyK E p (s .key)) (p .iv) (bodyOf E p (s .key) n .done)) (rw (blocks, ec) (mk .0));
           is-file = sym (join-split file (omega arith)) ∙ ap join (parts-are
               (same-of (p .tag) tag (e .t4)) (sym (iter-again (p .iter) (b .iter-bytes) (l .iter-long)))
               (sym (same-of (s .check) (p .check) (m .t8)))
               (sym (rw (take-append-drop 32 (keysOpened E (s .key) (p .keys) .done)) (keys-again (s .key) hs (p .keys) hkeys)))
-              (sym ec) (mk .1) (sym (same-of (E .hmac (keyL E p s) (E .covered (bodyOf E p s n .done))) (p .mac) (w .mac))));
+              (sym ec) (mk .1) (sym (same-of (E .hmac (keyL E p (s .key)) (E .covered (bodyOf E p (s .key) n .done))) (p .mac) (w .mac))));
         }
 
   -- a safe: accepted
@@ -182,7 +182,7 @@ module _ (E : Edition) (X : Laws E) where
       keys-long = encipher-sized (ecbE (E .cipher) (key .key)) (ecbD (E .cipher) (key .key)) (ecb-laws (E .cipher) (X .ciphers) (key .key) (X .key-sized pass salt iter)) 4 (zeros 16) (K ++ L)
           (sized-zeros 16) (sized-append 32 32 K L (z .K-sized) (z .L-sized)) .long;
       iv-long = z .iv-sized .long;
-      cipher-long = cbc-sized K (z .K-sized) iv (z .iv-sized) 0 k body refl body-is .long ∙ sym (body-is .long);
+      encrypted-long = cbc-sized K (z .K-sized) iv (z .iv-sized) 0 k body refl body-is .long ∙ sym (body-is .long);
       marker-long = marker-sized;
       mac-long = X .hmac-sized L (z .covered) .long;
     }
@@ -209,7 +209,7 @@ module _ (E : Edition) (X : Laws E) where
 
     pub tail-is : drop 152 file ≡ cbc E K iv body ++ (marker ++ E .hmac L (z .covered))
     unfolding partsOf
-    tail-is = tail-split file (omega (arith, file-long)) ∙ ap (λ (p : Parts). p .cipher ++ (p .marker ++ p .mac)) split-is
+    tail-is = tail-split file (omega (arith, file-long)) ∙ ap (λ (p : Parts). p .encrypted ++ (p .marker ++ p .mac)) split-is
 
     q-early : (ceiling room : ℕ) → iter ≤ ceiling → length body ≤ room → Early E q k file pass ceiling room
     unfolding partsOf
@@ -238,13 +238,13 @@ module _ (E : Edition) (X : Laws E) where
     unfolding partsOf wrapped
     keys-are = keys-back (key .key) (X .key-sized pass salt iter) (K ++ L) (sized-append 32 32 K L (z .K-sized) (z .L-sized))
 
-    K-is : keyK E q key ≡ K
+    K-is : keyK E q (key .key) ≡ K
     K-is = ap (take 32) keys-are ∙ take-at K L 32 (z .K-sized .long)
 
-    L-is : keyL E q key ≡ L
+    L-is : keyL E q (key .key) ≡ L
     L-is = ap (drop 32) keys-are ∙ drop-at K L 32 (z .K-sized .long)
 
-    done-is : bodyOf E q key k .done ≡ body
+    done-is : bodyOf E q (key .key) k .done ≡ body
     unfolding partsOf
     done-is =
         ap (λ (x : List ℕ). bodyOpened E x iv k (cbc E K iv body) (keysOpened E (key .key) (q .keys) .count) .done) K-is
@@ -258,12 +258,12 @@ module _ (E : Edition) (X : Laws E) where
     unfolding partsOf
     q-whole = record {
       fine = ap not (ap (E .wellFormed) done-is ∙ X .decides body (z .covered) (z .well-formed) .0);
-      mac = same-is (E .hmac (keyL E q key) (E .covered (bodyOf E q key k .done))) (E .hmac L (z .covered))
+      mac = same-is (E .hmac (keyL E q (key .key)) (E .covered (bodyOf E q (key .key) k .done))) (E .hmac L (z .covered))
           (ap₂ (λ (l b : List ℕ). E .hmac l (E .covered b)) L-is done-is ∙ ap (E .hmac L) (X .decides body (z .covered) (z .well-formed) .1));
     }
 
     pub safe-accepted : (ceiling room : ℕ) → iter ≤ ceiling → length body ≤ room
-        → readingOf E file pass ceiling room ≡ accepted E (keyK E q key) (keyL E q key) (key .count) (bodyOf E q key k)
+        → readingOf E file pass ceiling room ≡ accepted E (keyK E q (key .key)) (keyL E q (key .key)) (key .count) (bodyOf E q (key .key) k .count) (bodyOf E q (key .key) k .done)
     safe-accepted ceiling room hc hr = reading-is ceiling room hc hr ∙ is-accepted E q key k q-matches q-whole
 
     pub safe-read : (ceiling room : ℕ) → iter ≤ ceiling → length body ≤ room
@@ -299,9 +299,9 @@ module _ (E : Edition) (X : Laws E) where
         let r = passed-early E file pass ceiling room e in
         let w = late-passed E p s n (sym (ap (λ (r : Report). r .number) r) ∙ a .accepts) in
         let x = r ∙ is-accepted E p s n (w .0) (w .1) in
-        let eK : keyK E p s ≡ K = sym (ap (λ (r : Report). r .keyK) x) ∙ a .givesK in
-        let eL : keyL E p s ≡ L = sym (ap (λ (r : Report). r .keyL) x) ∙ a .givesL in
-        let eB : bodyOf E p s n .done ≡ body = sym (ap (λ (r : Report). r .body) x) ∙ a .givesBody in
+        let eK : keyK E p (s .key) ≡ K = sym (ap (λ (r : Report). r .keyK) x) ∙ a .givesK in
+        let eL : keyL E p (s .key) ≡ L = sym (ap (λ (r : Report). r .keyL) x) ∙ a .givesL in
+        let eB : bodyOf E p (s .key) n .done ≡ body = sym (ap (λ (r : Report). r .body) x) ∙ a .givesBody in
         let z : IsSafe E pass file (p .salt) (numberLow (p .iter)) K L (p .iv) body
         = subst₃ (λ (k l b : List ℕ). IsSafe E pass file (p .salt) (numberLow (p .iter)) k l (p .iv) b) eK eL eB (safe file pass ceiling room fb e (w .0) (w .1)) in
         let f = file-long pass file (p .salt) (numberLow (p .iter)) K L (p .iv) body z in

@@ -23,11 +23,11 @@ other true h = refl
 other false h = absurd (h refl)
 
 module _ (E : Edition) (X : Laws E) where
-  pub count-opened : (p : Parts) (s : Stretched) (n : ℕ) → bodyOf E p s n .count ≡ 4 + n
+  pub count-opened : (p : Parts) (P′ : List ℕ) (n : ℕ) → bodyOf E p P′ n .count ≡ 4 + n
   unfolding keysOpened bodyOpened
-  count-opened p s n =
-      opened-count (cbcD (E .cipher) (keyK E p s)) n (p .iv) (p .cipher) (keysOpened E (s .key) (p .keys) .count)
-      ∙ ap (λ (k : ℕ). k + n) (opened-count (ecbD (E .cipher) (s .key)) 4 (zeros 16) (p .keys) 0)
+  count-opened p P′ n =
+      opened-count (cbcD (E .cipher) (keyK E p P′)) n (p .iv) (p .encrypted) (keysOpened E P′ (p .keys) .count)
+      ∙ ap (λ (k : ℕ). k + n) (opened-count (ecbD (E .cipher) P′) 4 (zeros 16) (p .keys) 0)
 
   -- a reading that is refused by none of 1 to 7
   module _ (file pass : List ℕ) (ceiling room : ℕ) (fb : Bytes file) (h : Late (readingOf E file pass ceiling room .number)) where
@@ -54,7 +54,7 @@ module _ (E : Edition) (X : Laws E) where
         → readingOf E file pass ceiling room ≡ refused 9 (compressionsOf (length pass) (numberLow (split file .iter))) (4 + (length file - 200) / 16)
     matched m n = reading-is
         ∙ is-nine E (split file) key ((length file - 200) / 16) m (λ e. n (ap (λ (r : Report). r .number) reading-is ∙ e))
-        ∙ ap₂ (refused 9) compressed (count-opened (split file) key ((length file - 200) / 16))
+        ∙ ap₂ (refused 9) compressed (count-opened (split file) (key .key) ((length file - 200) / 16))
 
     pub opened-counts : readingOf E file pass ceiling room .number ≡ 0
         → (readingOf E file pass ceiling room .compressions ≡ compressionsOf (length pass) (numberLow (split file .iter)))
@@ -63,7 +63,7 @@ module _ (E : Edition) (X : Laws E) where
     opened-counts n =
         let w = late-passed E (split file) key ((length file - 200) / 16) (sym (ap (λ (r : Report). r .number) reading-is) ∙ n) in
         let x = reading-is ∙ is-accepted E (split file) key ((length file - 200) / 16) (w .0) (w .1) in
-        (ap (λ (r : Report). r .compressions) x ∙ compressed, ap (λ (r : Report). r .blocks) x ∙ count-opened (split file) key ((length file - 200) / 16))
+        (ap (λ (r : Report). r .compressions) x ∙ compressed, ap (λ (r : Report). r .blocks) x ∙ count-opened (split file) (key .key) ((length file - 200) / 16))
 
   -- DEMAND 3
   module _ (file file′ pass pass′ : List ℕ) (ceiling ceiling′ room : ℕ) (fb : Bytes file) (fb′ : Bytes file′)

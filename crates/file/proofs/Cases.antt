@@ -33,7 +33,7 @@ pub parts : split saved
       check = bytesHigh 32 0x91e948bddc7e1b3e7d3b155754c40fa0ced49bb1fe71baa75759d2f37aebf582;
       keys = bytesHigh 64 0xd7c73064b7aba8a99d86644b9d79fc1162345e09bb89abb5ccb901331b60182cb710ed48ced7ad95c4d9b9cac9d0993915f2f184759af80931dcc3e5d7ce0c07;
       iv = bytesHigh 16 0xa15c81918949449c99fa5b2bda44e098;
-      cipher = bytesHigh 80 0x6f616e11ff9e5471d04ff53c3f3dd3bcb25dfeca253f6f23655c11d28153bcaad9232ef154ccaba8abcc6a2b527a34d8a3498145c4d47a0dfcd6898d22cc8d2ec84a69b9bffa502df691797b6b798ac4;
+      encrypted = bytesHigh 80 0x6f616e11ff9e5471d04ff53c3f3dd3bcb25dfeca253f6f23655c11d28153bcaad9232ef154ccaba8abcc6a2b527a34d8a3498145c4d47a0dfcd6898d22cc8d2ec84a69b9bffa502df691797b6b798ac4;
       marker = bytesHigh 16 0x505753332d454f46505753332d454f46;
       mac = bytesHigh 32 0x303191a058248f5482b8147ace650aae89fac33d33bfea1f4fc610dab6b18c2d;
     }

@@ -48,7 +48,7 @@ module _ (E : Edition) (file pass : List ℕ) (ceiling room : ℕ) where
   s = E .stretched pass (p .salt) (numberLow (p .iter))
 
   abbrev o : Opening
-  o = bodyOf E p s n
+  o = bodyOf E p (s .key) n
 
   abbrev r : Report
   r = readingOf E file pass ceiling room
@@ -60,7 +60,7 @@ module _ (E : Edition) (file pass : List ℕ) (ceiling room : ℕ) where
     stopped : (k : ℕ) → 1 ≤ k → k ≤ 7 → First k (earlyTests E p n file pass ceiling room) → r ≡ refused k 0 0 → Ends
     unmatched : Passing → (Matches p s → ⊥) → r ≡ refused 8 (s .count) 0 → Ends
     broken : Passing → Matches p s → r ≡ refused 9 (s .count) (o .count) → Ends
-    whole : Passing → Matches p s → Whole E p s n → r ≡ accepted E (keyK E p s) (keyL E p s) (s .count) o → Ends
+    whole : Passing → Matches p s → Whole E p s n → r ≡ accepted E (keyK E p (s .key)) (keyL E p (s .key)) (s .count) (o .count) (o .done) → Ends
 
   pub ends : Ends
   unfolding readingOf earlyTests

@@ -55,10 +55,10 @@ listed-inj p q e =
     let e3 : p .check ≡ q .check = cc in
     let e4 : p .keys ≡ q .keys = cc in
     let e5 : p .iv ≡ q .iv = cc in
-    let e6 : p .cipher ≡ q .cipher = cc in
+    let e6 : p .encrypted ≡ q .encrypted = cc in
     let e7 : p .marker ≡ q .marker = cc in
     let e8 : p .mac ≡ q .mac = cc in
-    λ i. record { tag = e0 i; salt = e1 i; iter = e2 i; check = e3 i; keys = e4 i; iv = e5 i; cipher = e6 i; marker = e7 i; mac = e8 i }
+    λ i. record { tag = e0 i; salt = e1 i; iter = e2 i; check = e3 i; keys = e4 i; iv = e5 i; encrypted = e6 i; marker = e7 i; mac = e8 i }
 
 pub join-length : (p : Parts) (m : ℕ) → map length (listed p) ≡ sizes m → length (join p) ≡ 200 + m
 unfolding join sizes sum
@@ -91,20 +91,20 @@ pub record Lengths (p : Parts) (m : ℕ) : Type 0 where
   pub check-long : length (p .check) ≡ 32
   pub keys-long : length (p .keys) ≡ 64
   pub iv-long : length (p .iv) ≡ 16
-  pub cipher-long : length (p .cipher) ≡ m
+  pub encrypted-long : length (p .encrypted) ≡ m
   pub marker-long : length (p .marker) ≡ 16
   pub mac-long : length (p .mac) ≡ 32
 
 pub lengths : (p : Parts) (m : ℕ) → map length (listed p) ≡ sizes m → Lengths p m
 unfolding listed sizes
-lengths p m h = record { tag-long = cc; salt-long = cc; iter-long = cc; check-long = cc; keys-long = cc; iv-long = cc; cipher-long = cc; marker-long = cc; mac-long = cc }
+lengths p m h = record { tag-long = cc; salt-long = cc; iter-long = cc; check-long = cc; keys-long = cc; iv-long = cc; encrypted-long = cc; marker-long = cc; mac-long = cc }
 
 pub all-lengths : (p : Parts) (m : ℕ) → Lengths p m → map length (listed p) ≡ sizes m
 unfolding listed sizes
 all-lengths p m h = cc
 
 -- what a file has from offset 152 on
-pub tail-split : (f : List ℕ) → 200 ≤ length f → drop 152 f ≡ split f .cipher ++ (split f .marker ++ split f .mac)
+pub tail-split : (f : List ℕ) → 200 ≤ length f → drop 152 f ≡ split f .encrypted ++ (split f .marker ++ split f .mac)
 unfolding split
 tail-split f h =
     sym (rw (peel (length f - 48) 16 (length f - 32) f (omega arith)) (peel 152 (length f - 200) (length f - 48) f (omega arith)))
@@ -115,7 +115,7 @@ pub record AllBytes (p : Parts) : Type 0 where
   pub iter-bytes : Bytes (p .iter)
   pub keys-bytes : Bytes (p .keys)
   pub iv-bytes : Bytes (p .iv)
-  pub cipher-bytes : Bytes (p .cipher)
+  pub encrypted-bytes : Bytes (p .encrypted)
 
 pub bytes-split : (f : List ℕ) → Bytes f → AllBytes (split f)
 unfolding split
@@ -124,5 +124,5 @@ bytes-split f h = record {
   iter-bytes = bytes-take 4 (bytes-drop 36 h);
   keys-bytes = bytes-take 64 (bytes-drop 72 h);
   iv-bytes = bytes-take 16 (bytes-drop 136 h);
-  cipher-bytes = bytes-take (length f - 200) (bytes-drop 152 h);
+  encrypted-bytes = bytes-take (length f - 200) (bytes-drop 152 h);
 }

@@ -12,7 +12,7 @@ use Rattle.file.specs.Layout.{Parts, split, tag, differ, firstMarker}
 use Rattle.file.specs.Refusals.{First}
 use Rattle.file.proofs.Tables.{Pass, Decided, passes, stops, decide, all-pass, first-stops, first-between}
 use Rattle.file.specs.Edition.{Edition, Stretched}
-use Rattle.file.specs.Reading.{Report, refused, accepted, badLength, earlyTests, keyK, keyL, bodyOf, bodyTests, judged, checked, readingOf}
+use Rattle.file.specs.Reading.{Report, refused, accepted, badLength, earlyTests, keyK, keyL, bodyOf, bodyTests, settled, checked, readingOf}
 
 -- a number that is none of 1 to 7
 abbrev pub Late : ℕ → Type 0
@@ -68,21 +68,21 @@ pub record Matches (p : Parts) (s : Stretched) : Type 0 where
   pub t8 : differ (s .check) (p .check) ≡ false
 
 pub record Whole (E : Edition) (p : Parts) (s : Stretched) (n : ℕ) : Type 0 where
-  pub fine : not (E .wellFormed (bodyOf E p s n .done)) ≡ false
-  pub mac : differ (E .hmac (keyL E p s) (E .covered (bodyOf E p s n .done))) (p .mac) ≡ false
+  pub fine : not (E .wellFormed (bodyOf E p (s .key) n .done)) ≡ false
+  pub mac : differ (E .hmac (keyL E p (s .key)) (E .covered (bodyOf E p (s .key) n .done))) (p .mac) ≡ false
 
 module _ (E : Edition) (p : Parts) (s : Stretched) (n : ℕ) where
   abbrev o : Opening
-  o = bodyOf E p s n
+  o = bodyOf E p (s .key) n
 
   abbrev bad : Bool
   bad = not (E .wellFormed (o .done))
 
   abbrev off : Bool
-  off = differ (E .hmac (keyL E p s) (E .covered (o .done))) (p .mac)
+  off = differ (E .hmac (keyL E p (s .key)) (E .covered (o .done))) (p .mac)
 
   abbrev yes : Report
-  yes = accepted E (keyK E p s) (keyL E p s) (s .count) o
+  yes = accepted E (keyK E p (s .key)) (keyL E p (s .key)) (s .count) (o .count) (o .done)
 
   not-matched : (b : Bool) (x : Report) (c : ℕ) → cond b (refused 8 c 0) x .number ≡ 0 → (b ≡ false) × (x .number ≡ 0)
   unfolding refused
@@ -96,14 +96,14 @@ module _ (E : Edition) (p : Parts) (s : Stretched) (n : ℕ) where
   not-whole false false x c k h = (refl, refl)
 
   pub late-passed : checked E p s n .number ≡ 0 → Matches p s × Whole E p s n
-  unfolding checked judged bodyTests
+  unfolding checked settled bodyTests
   late-passed h =
       let a = not-matched (differ (s .check) (p .check)) (cond bad (refused 9 (s .count) (o .count)) (cond off (refused 9 (s .count) (o .count)) yes)) (s .count) h in
       let b = not-whole bad off yes (s .count) (o .count) (a .1) in
       (record { t8 = a .0 }, record { fine = b .0; mac = b .1 })
 
   pub is-accepted : Matches p s → Whole E p s n → checked E p s n ≡ yes
-  unfolding checked judged bodyTests
+  unfolding checked settled bodyTests
   is-accepted m w = rw (m .t8, w .fine, w .mac)
 
   -- refused after the keys matched
@@ -114,7 +114,7 @@ module _ (E : Edition) (p : Parts) (s : Stretched) (n : ℕ) where
   refused-nine false false x c k e h = absurd (h e)
 
   pub is-nine : Matches p s → (checked E p s n .number ≡ 0 → ⊥) → checked E p s n ≡ refused 9 (s .count) (o .count)
-  unfolding checked judged bodyTests accepted
+  unfolding checked settled bodyTests accepted
   is-nine m h =
       ap (λ (b : Bool). cond b (refused 8 (s .count) 0) (cond bad (refused 9 (s .count) (o .count)) (cond off (refused 9 (s .count) (o .count)) yes))) (m .t8)
       ∙ refused-nine bad off yes (s .count) (o .count) refl (λ z. h (rw (m .t8) z))

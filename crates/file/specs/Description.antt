@@ -28,7 +28,7 @@ module _ (E : Edition) where
         check = E .stretched passphrase salt iter .check;
         keys = wrapped (E .stretched passphrase salt iter .key) K L;
         iv = iv;
-        cipher = cbc K iv body;
+        encrypted = cbc K iv body;
         marker = marker;
         mac = E .hmac L covered;
       }

@@ -12,7 +12,7 @@ pub record Parts : Type 0 where
   pub check : List ℕ
   pub keys : List ℕ
   pub iv : List ℕ
-  pub cipher : List ℕ
+  pub encrypted : List ℕ
   pub marker : List ℕ
   pub mac : List ℕ
 
@@ -25,7 +25,7 @@ split f =
       check = take 32 (drop 40 f);
       keys = take 64 (drop 72 f);
       iv = take 16 (drop 136 f);
-      cipher = take (length f - 200) (drop 152 f);
+      encrypted = take (length f - 200) (drop 152 f);
       marker = take 16 (drop (length f - 48) f);
       mac = drop (length f - 32) f;
     }
@@ -36,7 +36,7 @@ glue [] = []
 glue (p ∷ ps) = p ++ glue ps
 
 unfoldable pub listed : Parts → List (List ℕ)
-listed p = p .tag ∷ p .salt ∷ p .iter ∷ p .check ∷ p .keys ∷ p .iv ∷ p .cipher ∷ p .marker ∷ p .mac ∷ []
+listed p = p .tag ∷ p .salt ∷ p .iter ∷ p .check ∷ p .keys ∷ p .iv ∷ p .encrypted ∷ p .marker ∷ p .mac ∷ []
 
 unfoldable pub join : Parts → List ℕ
 join p = glue (listed p)

@@ -63,42 +63,44 @@ module _ (E : Edition) where
   unfoldable pub bodyOpened : (K iv : List ℕ) → ℕ → List ℕ → ℕ → Opening
   bodyOpened K iv n cipher count = run (step (cbcD (E .cipher) K)) n (opening iv cipher count)
 
-  abbrev pub keyK : Parts → Stretched → List ℕ
-  keyK p s = take 32 (keysOpened (s .key) (p .keys) .done)
+  abbrev pub keyK : Parts → (P′ : List ℕ) → List ℕ
+  keyK p P′ = take 32 (keysOpened P′ (p .keys) .done)
 
-  abbrev pub keyL : Parts → Stretched → List ℕ
-  keyL p s = drop 32 (keysOpened (s .key) (p .keys) .done)
+  abbrev pub keyL : Parts → (P′ : List ℕ) → List ℕ
+  keyL p P′ = drop 32 (keysOpened P′ (p .keys) .done)
 
   -- the whole body decrypted
-  abbrev pub bodyOf : Parts → Stretched → ℕ → Opening
-  bodyOf p s n = bodyOpened (keyK p s) (p .iv) n (p .cipher) (keysOpened (s .key) (p .keys) .count)
+  abbrev pub bodyOf : Parts → (P′ : List ℕ) → ℕ → Opening
+  bodyOf p P′ n = bodyOpened (keyK p P′) (p .iv) n (p .encrypted) (keysOpened P′ (p .keys) .count)
 
-  -- accepted: the report's counts are those of the last states
-  unfoldable pub accepted : (K L : List ℕ) → ℕ → Opening → Report
-  accepted K L c o =
+  -- accepted: the keys, the two counts, and the body with the counts of its header fields and records
+  unfoldable pub accepted : (K L : List ℕ) (compressions blocks : ℕ) (body : List ℕ) → Report
+  accepted K L compressions blocks body =
       record {
         number = 0;
         keyK = K;
         keyL = L;
-        headers = E .headers (o .done);
-        records = E .records (o .done);
-        compressions = c;
-        blocks = o .count;
-        body = o .done;
+        headers = E .headers body;
+        records = E .records body;
+        compressions = compressions;
+        blocks = blocks;
+        body = body;
       }
 
   -- 9: body not well formed, or HMAC differs
   unfoldable pub bodyTests : (L mac body : List ℕ) → List Test
   bodyTests L mac body = refuse-if 9 (not (E .wellFormed body)) ∷ refuse-if 9 (differ (E .hmac L (E .covered body)) mac) ∷ []
 
-  unfoldable pub judged : (K L mac : List ℕ) → ℕ → Opening → Report
-  judged K L mac c o = deciding (λ k. refused k c (o .count)) (bodyTests L mac (o .done)) (accepted K L c o)
+  -- what a decrypted body, the keys and the two counts come to; of the file it needs the HMAC alone
+  unfoldable pub settled : (K L mac : List ℕ) (compressions blocks : ℕ) (body : List ℕ) → Report
+  settled K L mac compressions blocks body =
+      deciding (λ k. refused k compressions blocks) (bodyTests L mac body) (accepted K L compressions blocks body)
 
   -- 8: SHA-256 of P' differs
   unfoldable pub checked : Parts → Stretched → ℕ → Report
   checked p s n =
       deciding (λ k. refused k (s .count) 0) (refuse-if 8 (differ (s .check) (p .check)) ∷ [])
-      (judged (keyK p s) (keyL p s) (p .mac) (s .count) (bodyOf p s n))
+      (let o = bodyOf p (s .key) n in settled (keyK p (s .key)) (keyL p (s .key)) (p .mac) (s .count) (o .count) (o .done))
 
   unfoldable pub readingOf : (file passphrase : List ℕ) (ceiling room : ℕ) → Report
   readingOf file passphrase ceiling room =
