@@ -21,7 +21,7 @@ use Rattle.file.proofs.Markers.{clear-each, each-clear}
 use Rattle.file.proofs.Accepted.{file-long, safe-read, read-safe}
 
 -- the tests of a writing that is accepted
-pub record Writes (E : Edition) (pass : List ℕ) (iter : ℕ) (K iv body : List ℕ) (room : ℕ) : Type 0 where
+pub record Writable (E : Edition) (pass : List ℕ) (iter : ℕ) (K iv body : List ℕ) (room : ℕ) : Type 0 where
   pub t1 : badBody (length body) ≡ false
   pub t2 : ltb 1024 (length pass) ≡ false
   pub t3 : ltb room (length body + 200) ≡ false
@@ -44,23 +44,29 @@ is-body : (n : ℕ) → 32 ≤ n → n ≤ 4194096 → n % 16 ≡ 0 → badBody 
 unfolding badBody
 is-body n a b c = rw (le-ltb n 32 a, le-ltb 4194096 n b, eq-eqb (n % 16) 0 c)
 
+-- a safe's file is the one that its values make
+pub file-of : (E : Edition) (X : Laws E) {pass file salt : List ℕ} {iter : ℕ} {K L iv body : List ℕ} → IsSafe E pass file salt iter K L iv body
+    → file ≡ fileOf E pass salt iter K L iv body (E .covered body)
+file-of E X {pass} {salt = salt} {iter = iter} {K = K} {L = L} {iv = iv} {body = body} z =
+    z .is-file ∙ ap (fileOf E pass salt iter K L iv body) (sym (X .decides body (z .covered) (z .well-formed) .1))
+
 module _ (E : Edition) (X : Laws E) (pass salt : List ℕ) (iter : ℕ) (K L iv body : List ℕ) (room : ℕ) where
-  is-written : Writes E pass iter K iv body room
+  is-written : Writable E pass iter K iv body room
       → writingOf E pass salt iter K L iv body room ≡ record { number = 0; output = fileOf E pass salt iter K L iv body (E .covered body) ++ zeros (room - (length body + 200)) }
   unfolding writingOf written writeTests earlyWriteTests
   is-written w = all-pass (λ (k : ℕ). unwritten k room) _ (writeTests E pass iter K iv body room) (w .t1, (w .t2, (w .t3, (w .t5, (w .t9, (w .t10, tt))))))
 
-  writes : writingOf E pass salt iter K L iv body room .number ≡ 0 → Writes E pass iter K iv body room
+  writes : writingOf E pass salt iter K L iv body room .number ≡ 0 → Writable E pass iter K iv body room
   unfolding writingOf written writeTests earlyWriteTests unwritten
   writes h = go (decide (λ (k : ℕ). unwritten k room) (record { number = 0; output = fileOf E pass salt iter K L iv body (E .covered body) ++ zeros (room - (length body + 200)) }) (writeTests E pass iter K iv body room))
     where
-      go : Decided (λ (k : ℕ). unwritten k room) (writeTests E pass iter K iv body room) (record { number = 0; output = fileOf E pass salt iter K L iv body (E .covered body) ++ zeros (room - (length body + 200)) }) → Writes E pass iter K iv body room
+      go : Decided (λ (k : ℕ). unwritten k room) (writeTests E pass iter K iv body room) (record { number = 0; output = fileOf E pass salt iter K L iv body (E .covered body) ++ zeros (room - (length body + 200)) }) → Writable E pass iter K iv body room
       go (passes t e) = record { t1 = t .0; t2 = t .1 .0; t3 = t .1 .1 .0; t5 = t .1 .1 .1 .0; t9 = t .1 .1 .1 .1 .0; t10 = t .1 .1 .1 .1 .1 .0 }
       go (stops k f e) =
           let b = first-between 1 10 k {ts = writeTests E pass iter K iv body room} refl f in
           let z : 0 ≡ k = sym h ∙ ap (λ (w : Writing). w .number) e in absurd (omega arith)
 
-  pub written-safe : Values salt iter K L iv body → Writes E pass iter K iv body room → IsSafe E pass (fileOf E pass salt iter K L iv body (E .covered body)) salt iter K L iv body
+  pub written-safe : Values salt iter K L iv body → Writable E pass iter K iv body room → IsSafe E pass (fileOf E pass salt iter K L iv body (E .covered body)) salt iter K L iv body
   written-safe v w =
       let g = good-body (length body) (w .t1) in
       record {
@@ -81,7 +87,7 @@ module _ (E : Edition) (X : Laws E) (pass salt : List ℕ) (iter : ℕ) (K L iv 
         is-file = refl;
       }
 
-  pub safe-writes : {file : List ℕ} → IsSafe E pass file salt iter K L iv body → length body + 200 ≤ room → Writes E pass iter K iv body room
+  pub safe-writes : {file : List ℕ} → IsSafe E pass file salt iter K L iv body → length body + 200 ≤ room → Writable E pass iter K iv body room
   safe-writes z h = record {
     t1 = is-body (length body) (z .body-least) (z .body-most) (z .body-whole);
     t2 = le-ltb 1024 (length pass) (z .passphrase-fits);
@@ -93,10 +99,10 @@ module _ (E : Edition) (X : Laws E) (pass salt : List ℕ) (iter : ℕ) (K L iv 
 
   -- the writer accepts exactly what is a safe that fits
   pub write-exactly : Values salt iter K L iv body
-      → (writingOf E pass salt iter K L iv body room .number ≡ 0) ↔ (IsSafe E pass (fileOf E pass salt iter K L iv body (E .covered body)) salt iter K L iv body × (length body + 200 ≤ room))
+      → (writingOf E pass salt iter K L iv body room .number ≡ 0) ↔ ((file : List ℕ) × IsSafe E pass file salt iter K L iv body × (length body + 200 ≤ room))
   write-exactly v = (
-    λ h. (written-safe v (writes h), ltb-false room (length body + 200) (writes h .t3)),
-    λ t. ap (λ (w : Writing). w .number) (is-written (safe-writes (t .0) (t .1))),
+    λ h. (_, written-safe v (writes h), ltb-false room (length body + 200) (writes h .t3)),
+    λ t. ap (λ (w : Writing). w .number) (is-written (safe-writes (t .1) (t .2))),
   )
 
   -- READING BACK: the file stands at the front of the output, zeros follow, and it is read as the same body and keys
@@ -129,4 +135,4 @@ module _ (E : Edition) (X : Laws E) (file pass : List ℕ) (ceiling room : ℕ) 
       let e : space - (length body + 200) ≡ space - length file = omega arith in
       is-written E X pass (split file .salt) (numberLow (split file .iter)) K L (split file .iv) body space
       (safe-writes E X pass (split file .salt) (numberLow (split file .iter)) K L (split file .iv) body space z (omega arith))
-      ∙ ap₂ (λ (f : List ℕ) (n : ℕ). holding (f ++ zeros n)) (ap (fileOf E pass (split file .salt) (numberLow (split file .iter)) K L (split file .iv) body) (X .decides body (z .covered) (z .well-formed) .1) ∙ sym (z .is-file)) e
+      ∙ ap₂ (λ (f : List ℕ) (n : ℕ). holding (f ++ zeros n)) (sym (file-of E X z)) e

@@ -28,7 +28,7 @@ module _ {file passphrase before after : List ℕ} {ceiling : ℕ} {r : Reading}
   safe-of K L body a = read-safe v3 v3-laws file passphrase ceiling (length before) (c .bytes) K L body a
 
   pub is-read : numberOf r ≡ 0 → SafeOf (report .keyK) (report .keyL) (report .body)
-  is-read h = safe-of _ _ _ (record { accepts = sym (number-is (c .contract)) ∙ h; givesK = refl; givesL = refl; givesBody = refl })
+  is-read h = safe-of _ _ _ (record { accepts = sym (number-is (c .reports)) ∙ h; givesK = refl; givesL = refl; givesBody = refl })
 
   long-of : (K L body : List ℕ) → SafeOf K L body → length file ≡ 200 + length body
   long-of K L body s = file-long v3 v3-laws passphrase file (split file .salt) (numberLow (split file .iter)) K L (split file .iv) body (s .is-safe)
@@ -39,17 +39,17 @@ module _ {file passphrase before after : List ℕ} {ceiling : ℕ} {r : Reading}
     λ a.
         let l = long-of (report .keyK) (report .keyL) (report .body) (is-read (a .number)) in
         record {
-          accepts = sym (number-is (c .contract)) ∙ a .number;
-          givesK = sym (k-is (c .contract)) ∙ a .givesK;
-          givesL = sym (l-is (c .contract)) ∙ a .givesL;
+          accepts = sym (number-is (c .reports)) ∙ a .number;
+          givesK = sym (k-is (c .reports)) ∙ a .givesK;
+          givesL = sym (l-is (c .reports)) ∙ a .givesL;
           givesBody = append-inj (report .body) body (zeros (length before - length (report .body))) (zeros (length before - length body))
-              (omega (arith, a .long)) (sym (c .contract .memory) ∙ a .workspace) .0;
+              (omega (arith, a .long)) (sym (c .reports .memory) ∙ a .workspace) .0;
         },
     λ a. record {
-      number = number-is (c .contract) ∙ a .accepts;
-      givesK = k-is (c .contract) ∙ a .givesK;
-      givesL = l-is (c .contract) ∙ a .givesL;
+      number = number-is (c .reports) ∙ a .accepts;
+      givesK = k-is (c .reports) ∙ a .givesK;
+      givesL = l-is (c .reports) ∙ a .givesL;
       long = long-of K L body (safe-of K L body a);
-      workspace = c .contract .memory ∙ ap (λ (b : List ℕ). b ++ zeros (length before - length b)) (a .givesBody);
+      workspace = c .reports .memory ∙ ap (λ (b : List ℕ). b ++ zeros (length before - length b)) (a .givesBody);
     },
   )

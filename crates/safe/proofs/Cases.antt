@@ -19,7 +19,7 @@ use Rattle.body.specs.Sections.{runs}
 use Rattle.body.specs.Decision.{divided, goodHeader, goodRecord, goodRuns, wellFormed}
 use Rattle.body.proofs.Cases.{least, least-bytes}
 use Rattle.file.specs.Layout.{split, tag, marker, firstMarker}
-use Rattle.file.specs.Description.{IsSafe, cbc, fileOf}
+use Rattle.file.specs.Description.{IsSafe, cbc}
 use Rattle.file.specs.Reading.{refused, badLength, earlyTests, checked, readingOf}
 use Rattle.file.specs.Writing.{badBody, clear, earlyWriteTests, writeTests, written, unwritten, writingOf, Values}
 use Rattle.file.proofs.Cases.{saved}
@@ -95,7 +95,7 @@ unfolding numberLow bytesLow bytesHigh same v3 marker badBody clear unwritten wr
 marked = (refl, refl)
 
 -- so there is a safe: the file that these values make
-pub a-safe : IsSafe v3 (zeros 1024) (fileOf v3 (zeros 1024) (zeros 32) 2048 (zeros 32) (zeros 32) (zeros 16) least (v3 .covered least)) (zeros 32) 2048 (zeros 32) (zeros 32) (zeros 16) least
+pub a-safe : (file : List ℕ) × IsSafe v3 (zeros 1024) file (zeros 32) 2048 (zeros 32) (zeros 32) (zeros 16) least
 a-safe =
     let values : Values (zeros 32) 2048 (zeros 32) (zeros 32) (zeros 16) least =
     record {
@@ -106,4 +106,5 @@ a-safe =
       iv-sized = sized-zeros 16;
       body-bytes = least-bytes;
     } in
-    write-exactly v3 v3-laws (zeros 1024) (zeros 32) 2048 (zeros 32) (zeros 32) (zeros 16) least 232 values .0 (marked .1) .0
+    let w = write-exactly v3 v3-laws (zeros 1024) (zeros 32) 2048 (zeros 32) (zeros 32) (zeros 16) least 232 values .0 (marked .1) in
+    (w .0, w .1)

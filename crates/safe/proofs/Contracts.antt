@@ -6,8 +6,8 @@ use mathlib.Core.List.{List}
 use lib.Dec.{eqb}
 use lib.ListN.{length}
 use Rattle.file.specs.Reading.{Report, workspaceOf}
-use Rattle.safe.specs.Answers.{refusalNumber, outcomeNumber, headersIn, recordsIn, writtenNumber, reported}
-use Rattle.safe.specs.Steps.{Reports}
+use Rattle.safe.specs.Answers.{refusalNumber, outcomeNumber, headerCount, recordCount, writtenNumber, reported}
+use Rattle.safe.specs.Calls.{Reports}
 use Rattle.safe.specs.declared.Refusal.{Refusal}
 use Rattle.safe.specs.declared.Refusal.the-variants.{Length, Passphrase, Room, Tag, Floor, Ceiling, Marker, Check, Body, Block}
 use Rattle.safe.specs.declared.Outcome.{Outcome}
@@ -40,7 +40,7 @@ refused-said done refuse Block = refl
 abbrev outcomeOf : ℕ → ℕ → ℕ → Outcome
 outcomeOf n h m = cond (eqb n 0) (Outcome.Accepted h m) (Outcome.Refused (refusalOf n))
 
-outcome-said : (o : Outcome) → outcomeOf (outcomeNumber o) (headersIn o) (recordsIn o) ≡ o
+outcome-said : (o : Outcome) → outcomeOf (outcomeNumber o) (headerCount o) (recordCount o) ≡ o
 outcome-said (Outcome.Accepted h m) = refl
 outcome-said (Outcome.Refused x) = refused-said (Outcome.Accepted 0 0) Outcome.Refused x
 
@@ -81,13 +81,21 @@ module _ {report : Report} {before after : List ℕ} {r : Reading} (c : Reports 
   unfolding reported
   l-is = ap (λ (t : Report). t .keyL) (c .answer)
 
-  pub headers-are : headersIn (r .outcome) ≡ report .headers
+  pub headers-are : headerCount (r .outcome) ≡ report .headers
   unfolding reported
   headers-are = ap (λ (t : Report). t .headers) (c .answer)
 
-  pub records-are : recordsIn (r .outcome) ≡ report .records
+  pub records-are : recordCount (r .outcome) ≡ report .records
   unfolding reported
   records-are = ap (λ (t : Report). t .records) (c .answer)
+
+  pub compressions-are : r .compressions ≡ report .compressions
+  unfolding reported
+  compressions-are = ap (λ (t : Report). t .compressions) (c .answer)
+
+  pub blocks-are : r .blocks ≡ report .blocks
+  unfolding reported
+  blocks-are = ap (λ (t : Report). t .blocks) (c .answer)
 
 -- ---- writing
 

@@ -1,5 +1,5 @@
--- The demands upon reading and writing, each under the sentence that asks for it. `readingOf v3` and `writingOf v3` are what the contracts of `read` and
--- `write` cite; a call is taken by its contract alone (Calls.antt), so what is said of a call holds of every answer and every memory that meet it.
+-- The demands upon reading and writing, each under the sentence that asks for it. A call is taken by its contract alone (`Reads` and `Writes`, Calls.antt), so what
+-- is said of a call holds of every answer and every memory that meet it. `readingOf v3` and `writingOf v3` are the reports that these contracts cite.
 use Prim.Native.Nat.{ℕ, _+_, _-_, _/_, _<_, _≤_}
 use mathlib.Core.Path.{_≡_, refl, sym, ap, _∙_, subst}
 use mathlib.Core.Logic.{_↔_}
@@ -16,7 +16,6 @@ use Rattle.chain.specs.Modes.{ecbE, cbcE, cbcD, encipher, decipher}
 use Rattle.chain.specs.Twofish.{twofishCipher}
 use Rattle.body.specs.Sections.{covered}
 use Rattle.body.specs.WellFormed.{WellFormed}
-use Rattle.body.specs.Decision.{coveredOf}
 use Rattle.body.proofs.Decided.{counts-are}
 use Rattle.file.specs.Layout.{split, join, glue, listed, tag, marker}
 use Rattle.file.specs.Refusals.{Test, First}
@@ -25,21 +24,22 @@ use Rattle.file.specs.Reading.{Report, refused, workspaceOf, earlyTests, readin
 use Rattle.file.specs.Writing.{Writing, writeTests, writingOf}
 use Rattle.file.proofs.Accepted as Accepted
 use Rattle.file.proofs.Written as Written
-use Rattle.file.proofs.Passed.{Late, early}
+use Rattle.file.proofs.Passed.{Late}
 use Rattle.file.proofs.Alike.{count-opened, compressed, matched, alike-matched, alike-unmatched}
 use Rattle.file.proofs.Ends as Ends
-use Rattle.file.proofs.Decrypted.{whole-body}
 use Rattle.file.proofs.Nine.{nine}
 use Rattle.file.proofs.Prefix.{no-prefix}
 use Rattle.safe.specs.V3.{v3, stretchedV3}
-use Rattle.safe.specs.Answers.{headersIn, recordsIn, writtenNumber, reported}
-use Rattle.safe.specs.Steps.{Reports}
+use Rattle.safe.specs.Answers.{headerCount, recordCount, writtenNumber, reported}
+use Rattle.safe.specs.Steps.{Decrypts, Settles, Settled}
+use Rattle.safe.specs.declared.decrypt.Keys.{Keys}
 use Rattle.safe.specs.declared.Reading.{Reading}
 use Rattle.safe.specs.declared.Written.{Written}
 use Rattle.safe.proofs.V3Laws.{v3-laws}
-use Rattle.safe.specs.Calls.{saltIn, iterIn, ivIn, encryptedIn, macIn, blocksIn, keyKIn, keyLIn, lastState, Matching, numberOf, OneToFour, OneToSeven, Reads, Accepts, Writes}
+use Rattle.safe.specs.Calls.{saltIn, iterIn, ivIn, encryptedIn, macIn, blocksIn, stretchedIn, keyKIn, keyLIn, lastState, Matching, numberOf, OneToFour, OneToSeven, Reads, Accepts, Writes}
 use Rattle.safe.proofs.Contracts.{one-report, number-is, k-is, l-is, headers-are, records-are, written-told}
 use Rattle.safe.proofs.Acceptance.{is-read, accepts-exactly}
+use Rattle.safe.proofs.Settled.{settled-call, state-held}
 use Rattle.safe.proofs.Stretching.{matching}
 use Rattle.safe.proofs.Instances.{thirteen, instances, below-floor}
 
@@ -51,7 +51,7 @@ late h k a b e = h (omega arith, omega arith)
 -- every workspace byte zero, for 3 too.
 
 -- of the report, where `refused` has its number and the two counts of work, and all else zero
-pub demand1 : (file passphrase : List ℕ) (ceiling room : ℕ) → let t = readingOf v3 file passphrase ceiling room in
+demand1 : (file passphrase : List ℕ) (ceiling room : ℕ) → let t = readingOf v3 file passphrase ceiling room in
     (t .number ≤ 9) × ((t .number ≡ 0 → ⊥) → (t ≡ refused (t .number) (t .compressions) (t .blocks)) × (workspaceOf room t ≡ zeros room))
 demand1 file passphrase ceiling room = (
   Ends.nine-most v3 file passphrase ceiling room,
@@ -59,21 +59,20 @@ demand1 file passphrase ceiling room = (
 )
 
 -- of every call of `read`
-module _ (file passphrase : List ℕ) (ceiling : ℕ) {before after : List ℕ} {r : Reading}
-    (c : Reports (readingOf v3 file passphrase ceiling (length before)) before after r) where
+module _ {file passphrase before after : List ℕ} {ceiling : ℕ} {r : Reading} (c : Reads file passphrase ceiling before after r) where
   pub demand1-number : numberOf r ≤ 9
-  demand1-number = rw (number-is c) (demand1 file passphrase ceiling (length before) .0)
+  demand1-number = rw (number-is (c .reports)) (demand1 file passphrase ceiling (length before) .0)
 
   pub demand1-refused : (numberOf r ≡ 0 → ⊥)
-      → (r .k ≡ zeros 32) × (r .l ≡ zeros 32) × (headersIn (r .outcome) ≡ 0) × (recordsIn (r .outcome) ≡ 0) × (after ≡ zeros (length before))
+      → (r .k ≡ zeros 32) × (r .l ≡ zeros 32) × (headerCount (r .outcome) ≡ 0) × (recordCount (r .outcome) ≡ 0) × (after ≡ zeros (length before))
   unfolding refused
   demand1-refused h =
-      let d = demand1 file passphrase ceiling (length before) .1 (λ e. h (number-is c ∙ e)) in (
-        k-is c ∙ ap (λ (t : Report). t .keyK) (d .0),
-        l-is c ∙ ap (λ (t : Report). t .keyL) (d .0),
-        headers-are c ∙ ap (λ (t : Report). t .headers) (d .0),
-        records-are c ∙ ap (λ (t : Report). t .records) (d .0),
-        c .memory ∙ d .1,
+      let d = demand1 file passphrase ceiling (length before) .1 (λ e. h (number-is (c .reports) ∙ e)) in (
+        k-is (c .reports) ∙ ap (λ (t : Report). t .keyK) (d .0),
+        l-is (c .reports) ∙ ap (λ (t : Report). t .keyL) (d .0),
+        headers-are (c .reports) ∙ ap (λ (t : Report). t .headers) (d .0),
+        records-are (c .reports) ∙ ap (λ (t : Report). t .records) (d .0),
+        c .reports .memory ∙ d .1,
       )
 
 -- Writing refused: all zero.
@@ -108,12 +107,23 @@ unfolding v3 stretchedV3 fileOf partsOf join listed wrapped cbc
 file-described {passphrase} {file} {salt} {iter} z = rw (← (step-key (stretchedOf iter (startOf passphrase salt)))) (z .is-file)
 
 -- Accepted with K, L and a body exactly when the file is a safe of that body with those keys, ITER is at most the ceiling and the workspace holds the body.
-pub demand2 : (file passphrase : List ℕ) (ceiling room : ℕ) → Bytes file → (K L body : List ℕ) → Answers (readingOf v3 file passphrase ceiling room) K L body
+demand2 : (file passphrase : List ℕ) (ceiling room : ℕ) → Bytes file → (K L body : List ℕ) → Answers (readingOf v3 file passphrase ceiling room) K L body
     ↔ ((salt : List ℕ) × (iter : ℕ) × (iv : List ℕ) × IsSafe v3 passphrase file salt iter K L iv body × (iter ≤ ceiling) × (length body ≤ room))
 demand2 file passphrase ceiling room bytes K L body = Accepted.demand2 v3 v3-laws file passphrase ceiling room bytes K L body
 
+-- So a call's number is 0 exactly when the file is a safe of some body, with some values, ITER is at most the ceiling and the workspace holds the body.
+pub demand2-accepted : {file passphrase before after : List ℕ} {ceiling : ℕ} {r : Reading} → Reads file passphrase ceiling before after r
+    → (numberOf r ≡ 0)
+    ↔ ((salt : List ℕ) × (iter : ℕ) × (K L iv body : List ℕ) × IsSafe v3 passphrase file salt iter K L iv body × (iter ≤ ceiling) × (length body ≤ length before))
+demand2-accepted {file} {passphrase} {before} {ceiling = ceiling} c = (
+  λ h.
+      let s = is-read c h in
+      (split file .salt, numberLow (split file .iter), _, _, split file .iv, _, s .is-safe, s .under, s .fits),
+  λ z. number-is (c .reports) ∙ demand2 file passphrase ceiling (length before) (c .bytes) (z .2) (z .3) (z .5) .1 (z .0, z .1, z .4, z .6, z .7, z .8) .accepts,
+)
+
 module _ {file passphrase before after : List ℕ} {ceiling : ℕ} {r : Reading} (c : Reads file passphrase ceiling before after r) (K L body : List ℕ) where
-  -- The same of every call; and then the workspace holds the body, and zeros after it.
+  -- With these keys and this body, exactly when it is a safe of that body with those keys; and then the workspace holds the body, and zeros after it.
   pub demand2-call : Accepts file before after r K L body
       ↔ ((salt : List ℕ) × (iter : ℕ) × (iv : List ℕ) × IsSafe v3 passphrase file salt iter K L iv body × (iter ≤ ceiling) × (length body ≤ length before))
   demand2-call =
@@ -123,14 +133,14 @@ module _ {file passphrase before after : List ℕ} {ceiling : ℕ} {r : Reading}
 
   -- Counts of header fields and records (ENDs not counted as fields).
   pub demand2-counts : Accepts file before after r K L body → (w : WellFormed body)
-      → (headersIn (r .outcome) ≡ length (w .header)) × (recordsIn (r .outcome) ≡ length (w .records))
+      → (headerCount (r .outcome) ≡ length (w .header)) × (recordCount (r .outcome) ≡ length (w .records))
   unfolding v3
   demand2-counts h w =
       let a = accepts-exactly c K L body .0 h in
       let f = Ends.fields-counted v3 file passphrase ceiling (length before) (a .accepts) in
       let n = counts-are body w in (
-        headers-are (c .contract) ∙ f .0 ∙ ap (v3 .headers) (a .givesBody) ∙ n .0,
-        records-are (c .contract) ∙ f .1 ∙ ap (v3 .records) (a .givesBody) ∙ n .1,
+        headers-are (c .reports) ∙ f .0 ∙ ap (v3 .headers) (a .givesBody) ∙ n .0,
+        records-are (c .reports) ∙ f .1 ∙ ap (v3 .records) (a .givesBody) ∙ n .1,
       )
 
   -- Writing an accepted file's body again with its own passphrase, salt, ITER, keys and initial vector, into an output that holds it, gives the same file,
@@ -145,20 +155,17 @@ module _ {file passphrase before after : List ℕ} {ceiling : ℕ} {r : Reading}
       (w .number ∙ ap (λ (x : Writing). x .number) e, w .output ∙ ap (λ (x : Writing). x .output) e)
 
 module _ {passphrase salt : List ℕ} {iter : ℕ} {K L iv body before after : List ℕ} {r : Written} (c : Writes passphrase salt iter K L iv body before after r) where
-  abbrev written : List ℕ
-  written = fileOf v3 passphrase salt iter K L iv body (coveredOf body)
-
-  -- The writer accepts exactly what is a safe and fits; and then the output is the file, and zeros to its end.
-  pub demand2-written : (writtenNumber r ≡ 0) ↔ (IsSafe v3 passphrase written salt iter K L iv body × (length body + 200 ≤ length before))
-  unfolding v3
+  -- The writer accepts exactly what is a safe of some file and fits; and then the output is that file, and zeros to its end.
+  pub demand2-written : (writtenNumber r ≡ 0) ↔ ((file : List ℕ) × IsSafe v3 passphrase file salt iter K L iv body × (length body + 200 ≤ length before))
   demand2-written =
       let e = Written.write-exactly v3 v3-laws passphrase salt iter K L iv body (length before) (c .values) in
       (λ h. e .0 (sym (c .number) ∙ h), λ z. c .number ∙ e .1 z)
 
   module _ (h : writtenNumber r ≡ 0) where
-    pub demand2-output : after ≡ written ++ zeros (length before - (length body + 200))
-    unfolding v3
-    demand2-output = c .output ∙ Written.output-is v3 v3-laws passphrase salt iter K L iv body (length before) (c .values) (sym (c .number) ∙ h)
+    pub demand2-output : (file : List ℕ) → IsSafe v3 passphrase file salt iter K L iv body → after ≡ file ++ zeros (length before - (length body + 200))
+    demand2-output file z =
+        c .output ∙ Written.output-is v3 v3-laws passphrase salt iter K L iv body (length before) (c .values) (sym (c .number) ∙ h)
+        ∙ ap (λ (f : List ℕ). f ++ zeros (length before - (length body + 200))) (sym (Written.file-of v3 v3-laws z))
 
     -- What the writer accepts is read back under the same passphrase, any ceiling not below ITER and any workspace that holds it: same body, same keys.
     pub demand2-back : {ceiling : ℕ} {space space′ : List ℕ} {r′ : Reading} → Reads (take (length body + 200) after) passphrase ceiling space space′ r′
@@ -187,7 +194,7 @@ module _ (file file′ passphrase passphrase′ : List ℕ) (ceiling ceiling′ 
     (past : OneToSeven (readingOf v3 file passphrase ceiling room .number) → ⊥) (past′ : OneToSeven (readingOf v3 file′ passphrase′ ceiling′ room .number) → ⊥) where
   -- If both passphrases match their checks (SHA-256 of P' equal to the file's bytes 40 to 71) and both are refused, the reports are equal: number, both
   -- reported counts, and so the workspace.
-  pub demand3-matching : Matching passphrase file → Matching passphrase′ file′
+  demand3-matching : Matching passphrase file → Matching passphrase′ file′
       → (readingOf v3 file passphrase ceiling room .number ≡ 0 → ⊥) → (readingOf v3 file′ passphrase′ ceiling′ room .number ≡ 0 → ⊥)
       → readingOf v3 file passphrase ceiling room ≡ readingOf v3 file′ passphrase′ ceiling′ room
   unfolding split
@@ -196,7 +203,7 @@ module _ (file file′ passphrase passphrase′ : List ℕ) (ceiling ceiling′ 
       (matching passphrase file .0 m) (matching passphrase′ file′ .0 m′) n n′
 
   -- The same if neither matches.
-  pub demand3-unmatching : (Matching passphrase file → ⊥) → (Matching passphrase′ file′ → ⊥)
+  demand3-unmatching : (Matching passphrase file → ⊥) → (Matching passphrase′ file′ → ⊥)
       → readingOf v3 file passphrase ceiling room ≡ readingOf v3 file′ passphrase′ ceiling′ room
   unfolding split
   demand3-unmatching m m′ =
@@ -210,17 +217,17 @@ module _ {file file′ passphrase passphrase′ before before′ after after′ 
     (iters : iterIn file ≡ iterIn file′) (past : OneToSeven (numberOf r) → ⊥) (past′ : OneToSeven (numberOf r′) → ⊥) where
   pub demand3-call-matching : Matching passphrase file → Matching passphrase′ file′ → (numberOf r ≡ 0 → ⊥) → (numberOf r′ ≡ 0 → ⊥) → (r ≡ r′) × (after ≡ after′)
   demand3-call-matching m m′ n n′ =
-      one-report (c .contract) (c′ .contract)
+      one-report (c .reports) (c′ .reports)
       (demand3-matching file file′ passphrase passphrase′ ceiling ceiling′ (length before) (c .bytes) (c′ .bytes) files passphrases iters
-      (rw (number-is (c .contract)) at past) (rw (workspaces, ← (number-is (c′ .contract))) past′) m m′
-      (rw (number-is (c .contract)) at n) (rw (workspaces, ← (number-is (c′ .contract))) n′)
+      (rw (number-is (c .reports)) at past) (rw (workspaces, ← (number-is (c′ .reports))) past′) m m′
+      (rw (number-is (c .reports)) at n) (rw (workspaces, ← (number-is (c′ .reports))) n′)
       ∙ ap (readingOf v3 file′ passphrase′ ceiling′) workspaces) workspaces
 
   pub demand3-call-unmatching : (Matching passphrase file → ⊥) → (Matching passphrase′ file′ → ⊥) → (r ≡ r′) × (after ≡ after′)
   demand3-call-unmatching m m′ =
-      one-report (c .contract) (c′ .contract)
+      one-report (c .reports) (c′ .reports)
       (demand3-unmatching file file′ passphrase passphrase′ ceiling ceiling′ (length before) (c .bytes) (c′ .bytes) files passphrases iters
-      (rw (number-is (c .contract)) at past) (rw (workspaces, ← (number-is (c′ .contract))) past′) m m′
+      (rw (number-is (c .reports)) at past) (rw (workspaces, ← (number-is (c′ .reports))) past′) m m′
       ∙ ap (readingOf v3 file′ passphrase′ ceiling′) workspaces) workspaces
 
 module _ {file passphrase before after : List ℕ} {ceiling : ℕ} {r : Reading} (c : Reads file passphrase ceiling before after r) where
@@ -236,7 +243,7 @@ module _ {file passphrase before after : List ℕ} {ceiling : ℕ} {r : Reading}
   -- what holds of the report's number and counts holds of the answer's
   told : (P : ℕ → ℕ → ℕ → Type 0) → P (t .number) (t .compressions) (t .blocks) → P (numberOf r) (r .compressions) (r .blocks)
   unfolding reported
-  told P = subst (λ (u : Report). P (u .number) (u .compressions) (u .blocks)) (sym (c .contract .answer))
+  told P = subst (λ (u : Report). P (u .number) (u .compressions) (u .blocks)) (sym (c .reports .answer))
 
   -- ==== COUNTS. Every reading also reports two counts: SHA-256 compressions spent on stretching and its check, and Twofish blocks decrypted.
 
@@ -268,25 +275,21 @@ module _ {file passphrase before after : List ℕ} {ceiling : ℕ} {r : Reading}
   counts-blocks =
       told (λ n a b. (OneToSeven n → ⊥) → (n ≡ 8 → ⊥) → b ≡ 4 + blocksIn file)
       (λ past checked. Ends.blocks-held v3 file passphrase ceiling room (late past) checked
-      ∙ count-opened v3 v3-laws (split file) (v3 .stretched passphrase (split file .salt) (numberLow (split file .iter))) (blocksIn file))
+      ∙ count-opened v3 v3-laws (split file) (v3 .stretched passphrase (saltIn file) (iterIn file) .key) (blocksIn file))
 
-  -- Unless the reading ends in 1 to 8, the state that the count belongs to, before any zeroing, is the whole body decrypted, of which nothing is left.
-  pub counts-state : (OneToSeven (numberOf r) → ⊥) → (numberOf r ≡ 8 → ⊥) → let o = lastState passphrase file in
-      (r .blocks ≡ o .count)
-      × (o .done ≡ decipher (cbcD twofishCipher (keyKIn passphrase file)) (blocksIn file) (ivIn file) (encryptedIn file))
-      × (length (o .done) ≡ length file - 200)
-      × (o .rest ≡ [])
-  unfolding v3 split
-  counts-state =
-      let o = lastState passphrase file in
-      told (λ n a b. (OneToSeven n → ⊥) → (n ≡ 8 → ⊥)
-      → (b ≡ o .count)
-      × (o .done ≡ decipher (cbcD twofishCipher (keyKIn passphrase file)) (blocksIn file) (ivIn file) (encryptedIn file))
-      × (length (o .done) ≡ length file - 200)
-      × (o .rest ≡ []))
-      (λ past checked.
-      let w = whole-body v3 v3-laws file passphrase ceiling room (c .bytes) (early v3 file passphrase ceiling room (late past)) in
-      (Ends.blocks-held v3 file passphrase ceiling room (late past) checked, w .0, w .1, w .2))
+  -- Unless the reading ends in 1 to 8, it is a decryption that is settled: what `decrypt` hands on is all that the answer and the workspace are made of.
+  pub counts-settled : (OneToSeven (numberOf r) → ⊥) → (numberOf r ≡ 8 → ⊥) → Settled file passphrase before after r
+  counts-settled past checked = settled-call c (late past) checked
+
+  -- The report is the count that the last step hands on, and the state it belongs to, before any zeroing, is the whole body decrypted: of whatever meets the
+  -- contract of `decrypt`, and of whatever meets that of `settle` after it.
+  pub counts-state : {memory after′ : List ℕ} {keys : Keys} (compressions : ℕ) {r′ : Reading} → Decrypts file (stretchedIn passphrase file) memory keys
+      → Settles keys (macIn file) compressions memory after′ r′
+      → (r′ .blocks ≡ keys .count)
+      × (keys .count ≡ 4 + blocksIn file)
+      × (memory ≡ decipher (cbcD twofishCipher (keyKIn passphrase file)) (blocksIn file) (ivIn file) (encryptedIn file))
+      × (length memory ≡ length file - 200)
+  counts-state compressions d s = state-held file passphrase compressions d s
 
   -- ==== CEILINGS. Ceiling 2,047: no file passes; ceiling equal to ITER: passes.
   pub ceiling-below : ceiling < 2048 → numberOf r ≡ 0 → ⊥
@@ -317,7 +320,7 @@ module _ {file passphrase before after : List ℕ} {ceiling : ℕ} {r : Reading}
   -- and past that, 9 exactly when the body is not well formed, or its HMAC differs.
   pub reading-nine : (OneToSeven (numberOf r) → ⊥) → Matching passphrase file
       → (numberOf r ≡ 9) ↔ ((w : WellFormed (lastState passphrase file .done)) → hmacOf (keyLIn passphrase file) (covered (w .fields)) ≡ macIn file → ⊥)
-  unfolding v3 split
+  unfolding v3 stretchedV3 split
   reading-nine =
       told (λ n a b. (OneToSeven n → ⊥) → Matching passphrase file
       → (n ≡ 9) ↔ ((w : WellFormed (lastState passphrase file .done)) → hmacOf (keyLIn passphrase file) (covered (w .fields)) ≡ macIn file → ⊥))
@@ -344,14 +347,13 @@ module _ {passphrase salt : List ℕ} {iter : ℕ} {K L iv body before after : L
   writing-first k from = rw (c .number) (Ends.write-fails v3 passphrase salt iter K L iv body (length before) k from)
 
 -- ==== NO SECOND ANSWER. Each public call's contract determines its answer and its lent memory afterwards for every input: no second answer satisfies it.
-pub one-read : (file passphrase : List ℕ) (ceiling : ℕ) (before after after′ : List ℕ) (r r′ : Reading) → let t = readingOf v3 file passphrase ceiling (length before) in
-    Reports t before after r → Reports t before after′ r′ → (r ≡ r′) × (after ≡ after′)
-one-read file passphrase ceiling before after after′ r r′ c c′ = one-report c c′ refl refl
+pub one-read : {file passphrase : List ℕ} {ceiling : ℕ} {before after after′ : List ℕ} {r r′ : Reading}
+    → Reads file passphrase ceiling before after r → Reads file passphrase ceiling before after′ r′ → (r ≡ r′) × (after ≡ after′)
+one-read c c′ = one-report (c .reports) (c′ .reports) refl refl
 
-pub one-write : (passphrase salt : List ℕ) (iter : ℕ) (K L iv body before after after′ : List ℕ) (r r′ : Written)
-    → let w = writingOf v3 passphrase salt iter K L iv body (length before) in
-    (writtenNumber r ≡ w .number) × (after ≡ w .output) → (writtenNumber r′ ≡ w .number) × (after′ ≡ w .output) → (r ≡ r′) × (after ≡ after′)
-one-write passphrase salt iter K L iv body before after after′ r r′ c c′ = (written-told r r′ (c .0 ∙ sym (c′ .0)), c .1 ∙ sym (c′ .1))
+pub one-write : {passphrase salt : List ℕ} {iter : ℕ} {K L iv body before after after′ : List ℕ} {r r′ : Written}
+    → Writes passphrase salt iter K L iv body before after r → Writes passphrase salt iter K L iv body before after′ r′ → (r ≡ r′) × (after ≡ after′)
+one-write c c′ = (written-told _ _ (c .number ∙ sym (c′ .number)), c .output ∙ sym (c′ .output))
 
 -- Of walk and append: `walk-one` and `append-one` (fields, Numbers.antt); of well-formed and find: `judge-one` and `find-one` (body, Answers.antt).
 
@@ -364,4 +366,4 @@ thirteen-instances = instances
 pub floor-instance : {file passphrase before after : List ℕ} {ceiling : ℕ} {r : Reading} → Reads file passphrase ceiling before after r
     → take 4 (drop 36 file) ≡ 0xFF ∷ 0x07 ∷ 0x00 ∷ 0x00 ∷ [] → (OneToFour (numberOf r) → ⊥) → numberOf r ≡ 5
 floor-instance {file} {passphrase} {before} {ceiling = ceiling} c e past =
-    number-is (c .contract) ∙ below-floor file passphrase ceiling (length before) e (rw (number-is (c .contract)) at past)
+    number-is (c .reports) ∙ below-floor file passphrase ceiling (length before) e (rw (number-is (c .reports)) at past)

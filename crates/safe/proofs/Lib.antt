@@ -9,6 +9,7 @@ mod Contracts
 pub mod Told
 mod Acceptance
 mod Stretching
+mod Settled
 pub mod Instances
 pub mod Demands
 pub mod Cases

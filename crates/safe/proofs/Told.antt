@@ -13,8 +13,8 @@ use Rattle.file.specs.Writing.{writingOf, writeTests}
 use Rattle.file.proofs.Ends as Ends
 use Rattle.file.proofs.Tables.{first-between}
 use Rattle.safe.specs.V3.{v3}
-use Rattle.safe.specs.Answers.{refusalNumber, outcomeNumber, headersIn, recordsIn, writtenNumber, reported}
-use Rattle.safe.specs.Steps.{Reports}
+use Rattle.safe.specs.Answers.{refusalNumber, outcomeNumber, headerCount, recordCount, writtenNumber, reported}
+use Rattle.safe.specs.Calls.{Reports}
 use Rattle.safe.specs.declared.Outcome.{Outcome}
 use Rattle.safe.specs.declared.Outcome.the-variants as Outcome
 use Rattle.safe.specs.declared.Written.{Written}
@@ -33,7 +33,7 @@ numbered k a b =
 abbrev answer : Report → Outcome → Reading
 answer t o = record { outcome = o; k = t .keyK; l = t .keyL; compressions = t .compressions; blocks = t .blocks }
 
-answers : (t : Report) (o : Outcome) → outcomeNumber o ≡ t .number → headersIn o ≡ t .headers → recordsIn o ≡ t .records → reported (answer t o) (t .body) ≡ t
+answers : (t : Report) (o : Outcome) → outcomeNumber o ≡ t .number → headerCount o ≡ t .headers → recordCount o ≡ t .records → reported (answer t o) (t .body) ≡ t
 unfolding reported
 answers t o p q s =
     λ i. record { number = p i; keyK = t .keyK; keyL = t .keyL; headers = q i; records = s i; compressions = t .compressions; blocks = t .blocks; body = t .body }

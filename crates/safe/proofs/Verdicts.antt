@@ -1,12 +1,12 @@
 -- The code's answers are the report's: an early refusal, a failed check, a body that is accepted or not. By the tests that each has passed.
 use Prim.Native.Nat.{ℕ, _+_, _-_, _*_, _/_, _^_, _<_, _≤_}
-use mathlib.Core.Path.{_≡_, refl, sym, ap, ap₂, _∙_}
+use mathlib.Core.Path.{_≡_, refl, sym, ap, ap₂, _∙_, subst}
 use mathlib.Core.Bool.{Bool, true, false, cond, not}
-use mathlib.Core.List.{List, [], _++_}
+use mathlib.Core.List.{List, [], _++_, append-assoc, append-nil}
 use native.Mathlib.Nat.{sub-zero}
 use native.Mathlib.Omega.{arith}
 use lib.Dec.{lit≤}
-use lib.ListN.{length, take, drop, length-replicate, length-drop}
+use lib.ListN.{length, take, drop, length-replicate, length-drop, replicate-append-replicate}
 use lib.Seq.{take-all}
 use Rattle.words.specs.Numbers.{numberLow}
 use Rattle.words.specs.Slices.{zeros, same}
@@ -16,27 +16,25 @@ use Rattle.stretch.specs.declared.Stretcher.{Stretcher}
 use Rattle.body.specs.Decision.{wellFormed, coveredOf, headersOf, recordsOf}
 use Rattle.body.specs.declared.Judged.{Judged}
 use Rattle.body.specs.declared.Judged.the-variants.{Counts, NotWellFormed}
-use Rattle.chain.specs.Modes.{ecbD}
-use Rattle.chain.specs.Opening.{Opening}
-use Rattle.chain.proofs.StepLaws.{opened-count}
 use Rattle.words.proofs.ByteLaws.{drop-same}
-use Rattle.file.specs.Layout.{Parts, split, firstMarker}
-use Rattle.file.specs.Refusals.{deciding}
+use Rattle.file.specs.Layout.{split, firstMarker}
+use Rattle.file.specs.Refusals.{Test}
 use Rattle.file.specs.Edition.{Stretched}
-use Rattle.file.specs.Reading.{Report, refused, accepted, workspaceOf, earlyTests, keysOpened, bodyOpened, keyK, keyL, bodyOf, bodyTests, judged, checked, readingOf}
+use Rattle.file.specs.Reading.{Report, refused, accepted, workspaceOf, earlyTests, keyK, keyL, bodyTests, settled, checked, readingOf}
 use borrow.Author.Tests.{ltb-false}
 use Rattle.file.proofs.Tables.{Decided, passes, stops, decide, first-between, by-zero, by-number}
 use Rattle.file.proofs.Accepted.{good-length}
 use Rattle.safe.specs.V3.{v3, stretchedV3}
 use Rattle.safe.specs.Answers.{refusalNumber, earlyNumber, reported}
-use Rattle.safe.specs.Steps.{Unwrapped, Decrypted, verdictOf, Reports}
+use Rattle.safe.specs.Calls.{blocksIn, Reports}
+use Rattle.safe.specs.Steps.{earlyReading, Ready, stateUnder, Decrypts, verdictOf, Settles, settledUnder, openedBy}
 use Rattle.safe.specs.declared.Refusal.{Refusal}
 use Rattle.safe.specs.declared.Refusal.the-variants.{Length, Passphrase, Room, Tag, Floor, Ceiling, Marker, Check, Body, Block}
 use Rattle.safe.specs.declared.Early.{Early}
 use Rattle.safe.specs.declared.Early.the-variants as Early
 use Rattle.safe.specs.declared.Outcome.the-variants.{Accepted}
 use Rattle.safe.specs.declared.Reading.{Reading}
-use Rattle.safe.specs.declared.wrap.Keys.{Keys}
+use Rattle.safe.specs.declared.decrypt.Keys.{Keys}
 
 pub positive : (x : Refusal) → 1 ≤ refusalNumber x
 positive Length = lit≤ tt
@@ -67,37 +65,42 @@ refused-reports k c b {report = report} {before = before} {r = r} e a m =
       memory = m ∙ refused-memory (length before) k c b ∙ ap (workspaceOf (length before)) (sym e);
     }
 
+-- equal reports
+pub reports-as : {x y : Report} {before after : List ℕ} {r : Reading} → y ≡ x → Reports x before after r → Reports y before after r
+reports-as {before = before} {r = r} e p =
+    record {
+      answer = ap (λ (z : Report). reported r (z .body)) e ∙ p .answer ∙ sym e;
+      memory = p .memory ∙ ap (workspaceOf (length before)) (sym e);
+    }
+
 -- the early tests
 module _ (file pass : List ℕ) (ceiling room : ℕ) where
-  abbrev tests : ℕ
-  tests = deciding (λ (n : ℕ). n) (earlyTests v3 (split file) ((length file - 200) / 16) file pass ceiling room) 0
-
   abbrev stretched : Stretched
   stretched = stretchedV3 pass (split file .salt) (numberLow (split file .iter))
 
-  early-refused : (x : Refusal) {t : Early} → earlyNumber t ≡ tests → t ≡ Early.Refused x → readingOf v3 file pass ceiling room ≡ refused (refusalNumber x) 0 0
+  early-refused : (x : Refusal) {t : Early} → earlyNumber t ≡ earlyReading file pass ceiling room → t ≡ Early.Refused x → readingOf v3 file pass ceiling room ≡ refused (refusalNumber x) 0 0
   unfolding readingOf earlyTests v3
   early-refused x e f =
-      let g : refusalNumber x ≡ tests = sym (ap earlyNumber f) ∙ e in
+      let g : refusalNumber x ≡ earlyReading file pass ceiling room = sym (ap earlyNumber f) ∙ e in
       by-number (λ (k : ℕ). refused k 0 0) (checked v3 (split file) stretched ((length file - 200) / 16)) 7
       (earlyTests v3 (split file) ((length file - 200) / 16) file pass ceiling room) refl g (positive x)
 
-  early-passed : {t : Early} → earlyNumber t ≡ tests → t ≡ Early.Passed → readingOf v3 file pass ceiling room ≡ checked v3 (split file) stretched ((length file - 200) / 16)
+  early-passed : {t : Early} → earlyNumber t ≡ earlyReading file pass ceiling room → t ≡ Early.Passed → readingOf v3 file pass ceiling room ≡ checked v3 (split file) stretched ((length file - 200) / 16)
   unfolding readingOf earlyTests v3
   early-passed e f =
-      let g : 0 ≡ tests = sym (ap earlyNumber f) ∙ e in
+      let g : 0 ≡ earlyReading file pass ceiling room = sym (ap earlyNumber f) ∙ e in
       by-zero (λ (k : ℕ). refused k 0 0) (checked v3 (split file) stretched ((length file - 200) / 16)) 7
       (earlyTests v3 (split file) ((length file - 200) / 16) file pass ceiling room) refl g refl
 
 pub reads-refused : (file pass before : List ℕ) (ceiling : ℕ) (x : Refusal) {t : Early} {after : List ℕ} {r : Reading}
-    → earlyNumber t ≡ tests file pass ceiling (length before) → t ≡ Early.Refused x → reported r [] ≡ refused (refusalNumber x) 0 0
+    → earlyNumber t ≡ earlyReading file pass ceiling (length before) → t ≡ Early.Refused x → reported r [] ≡ refused (refusalNumber x) 0 0
     → after ≡ zeros (length before) → Reports (readingOf v3 file pass ceiling (length before)) before after r
 reads-refused file pass before ceiling x e f a m =
     refused-reports (refusalNumber x) 0 0 (early-refused file pass ceiling (length before) x e f) a m
 
 pub reads-passed : (file pass before zeroed : List ℕ) (ceiling : ℕ) {t : Early} {after : List ℕ} {r : Reading}
-    → earlyNumber t ≡ tests file pass ceiling (length before) → t ≡ Early.Passed → zeroed ≡ zeros (length before)
-    → Reports (checked v3 (split file) (stretchedV3 pass (split file .salt) (numberLow (split file .iter))) ((length file - 200) / 16)) zeroed after r
+    → earlyNumber t ≡ earlyReading file pass ceiling (length before) → t ≡ Early.Passed → zeroed ≡ zeros (length before)
+    → Reports (openedBy pass file) zeroed after r
     → Reports (readingOf v3 file pass ceiling (length before)) before after r
 reads-passed file pass before zeroed ceiling {after = after} {r = r} e f z x =
     let p = early-passed file pass ceiling (length before) e f in
@@ -117,83 +120,89 @@ marker-from file n h e =
     e ∙ ap₂ firstMarker k t
 
 -- the body's verdict is the report
-module _ (K L mac : List ℕ) (c : ℕ) (o : Opening) where
-  abbrev body : List ℕ
-  body = o .done
+module _ (K L mac : List ℕ) (c blocks : ℕ) (body : List ℕ) where
+  abbrev comes-to : Bool → Bool → Report
+  comes-to a b = cond (not a) (refused 9 c blocks) (cond (not b) (refused 9 c blocks) (accepted v3 K L c blocks body))
 
-  verdict-is-no : verdictOf L mac body ≡ NotWellFormed → judged v3 K L mac c o ≡ refused 9 c (o .count)
-  unfolding verdictOf judged bodyTests v3
+  abbrev verdict : Bool → Bool → Judged
+  verdict a b = cond a (cond b (Counts (headersOf body) (recordsOf body)) NotWellFormed) NotWellFormed
+
+  verdict-is-no : verdictOf L mac body ≡ NotWellFormed → settled v3 K L mac c blocks body ≡ refused 9 c blocks
+  unfolding verdictOf settled bodyTests v3
   verdict-is-no e = go (wellFormed body) (same (hmacOf L (coveredOf body)) mac) e
     where
-      go : (a b : Bool) → cond a (cond b (Counts (headersOf body) (recordsOf body)) NotWellFormed) NotWellFormed ≡ NotWellFormed
-          → cond (not a) (refused 9 c (o .count)) (cond (not b) (refused 9 c (o .count)) (accepted v3 K L c o)) ≡ refused 9 c (o .count)
+      go : (a b : Bool) → verdict a b ≡ NotWellFormed → comes-to a b ≡ refused 9 c blocks
       go true true e = absurd (let z : _≡_ {A = ℕ} 0 1 = cc in omega arith)
       go true false e = refl
       go false b e = refl
 
-  verdict-is-yes : (h n : ℕ) → verdictOf L mac body ≡ Counts h n → (judged v3 K L mac c o ≡ accepted v3 K L c o) × (h ≡ headersOf body) × (n ≡ recordsOf body)
-  unfolding verdictOf judged bodyTests v3
+  verdict-is-yes : (h n : ℕ) → verdictOf L mac body ≡ Counts h n
+      → (settled v3 K L mac c blocks body ≡ accepted v3 K L c blocks body) × (h ≡ headersOf body) × (n ≡ recordsOf body)
+  unfolding verdictOf settled bodyTests v3
   verdict-is-yes h n e = go (wellFormed body) (same (hmacOf L (coveredOf body)) mac) e
     where
-      go : (a b : Bool) → cond a (cond b (Counts (headersOf body) (recordsOf body)) NotWellFormed) NotWellFormed ≡ Counts h n
-          → (cond (not a) (refused 9 c (o .count)) (cond (not b) (refused 9 c (o .count)) (accepted v3 K L c o)) ≡ accepted v3 K L c o) × (h ≡ headersOf body) × (n ≡ recordsOf body)
+      go : (a b : Bool) → verdict a b ≡ Counts h n → (comes-to a b ≡ accepted v3 K L c blocks body) × (h ≡ headersOf body) × (n ≡ recordsOf body)
       go true true e = (refl, cc, cc)
       go true false e = absurd (let z : _≡_ {A = ℕ} 0 1 = cc in omega arith)
       go false b e = absurd (let z : _≡_ {A = ℕ} 0 1 = cc in omega arith)
 
--- a body judged: the keys and the text that the code holds are those of the definition's states
-module _ (file key : List ℕ) (n c : ℕ) (s : Stretched) (e : s .key ≡ key) (kk : Keys) (u : Unwrapped key (split file .keys) kk) (w : List ℕ) (blocks : ℕ)
-    (x : Decrypted (bodyOpened v3 (kk .k) (split file .iv) n (split file .cipher) (kk .count)) w blocks) where
-  abbrev p : Parts
-  p = split file
+  -- a report's body is the whole body or none of it, and its counts are those that were handed in
+  pub settled-parts : let t = settled v3 K L mac c blocks body in (length (t .body) ≤ length body) × (t .compressions ≡ c) × (t .blocks ≡ blocks)
+  unfolding settled bodyTests accepted refused
+  settled-parts = go (v3 .wellFormed body) (same (v3 .hmac L (v3 .covered body)) mac)
+    where
+      go : (a b : Bool) → let t = comes-to a b in (length (t .body) ≤ length body) × (t .compressions ≡ c) × (t .blocks ≡ blocks)
+      go true true = (omega arith, refl, refl)
+      go true false = (omega arith, refl, refl)
+      go false b = (omega arith, refl, refl)
 
-  abbrev o : Opening
-  o = bodyOf v3 p s n
+-- what `settle` answers: of any memory, keys and counts
+module _ (keys : Keys) (mac : List ℕ) (c : ℕ) (body : List ℕ) {j : Judged} (v : j ≡ verdictOf (keys .l) mac body) where
+  pub settled-no : j ≡ NotWellFormed → {after : List ℕ} {r : Reading} → reported r [] ≡ refused 9 c (keys .count) → after ≡ zeros (length body)
+      → Settles keys mac c body after r
+  settled-no f a z = refused-reports 9 c (keys .count) (verdict-is-no (keys .k) (keys .l) mac c (keys .count) body (sym v ∙ f)) a z
 
-  K-is : kk .k ≡ keyK v3 p s
-  K-is = u .k ∙ ap (λ (y : List ℕ). take 32 (keysOpened v3 y (p .keys) .done)) (sym e)
+  pub settled-yes : (h q : ℕ) → j ≡ Counts h q
+      → Settles keys mac c body body (record { outcome = Accepted h q; k = keys .k; l = keys .l; compressions = c; blocks = keys .count })
+  unfolding reported accepted v3 workspaceOf
+  settled-yes h q f =
+      let y = verdict-is-yes (keys .k) (keys .l) mac c (keys .count) body h q (sym v ∙ f) in
+      let e : settled v3 (keys .k) (keys .l) mac c (keys .count) body .body ≡ body = ap (λ (r : Report). r .body) (y .0) in
+      let r : Reading = record { outcome = Accepted h q; k = keys .k; l = keys .l; compressions = c; blocks = keys .count } in
+      let z : length body - length body ≡ 0 = omega arith in
+      record {
+        answer = ap (reported r) e
+            ∙ (λ i. record { number = 0; keyK = keys .k; keyL = keys .l; headers = y .1 i; records = y .2 i; compressions = c; blocks = keys .count; body = body })
+            ∙ sym (y .0);
+        memory = sym (append-nil body) ∙ ap (λ (n : ℕ). body ++ zeros n) (sym z) ∙ ap (λ (b : List ℕ). b ++ zeros (length body - length b)) (sym e);
+      }
 
-  L-is : kk .l ≡ keyL v3 p s
-  L-is = u .l ∙ ap (λ (y : List ℕ). drop 32 (keysOpened v3 y (p .keys) .done)) (sym e)
+-- a memory with more zeros behind it
+pub longer : (t : Report) (n m : ℕ) → length (t .body) ≤ n → n ≤ m → workspaceOf n t ++ zeros (m - n) ≡ workspaceOf m t
+unfolding workspaceOf
+longer t n m h k =
+    let e : n - length (t .body) + (m - n) ≡ m - length (t .body) = omega arith in
+    append-assoc (t .body) (zeros (n - length (t .body))) (zeros (m - n))
+    ∙ ap (λ (z : List ℕ). t .body ++ z) (replicate-append-replicate (n - length (t .body)) (m - n) 0 ∙ ap zeros e)
 
-  state-is : bodyOpened v3 (kk .k) (p .iv) n (p .cipher) (kk .count) ≡ o
-  state-is =
-      ap₂ (λ (y : List ℕ) (m : ℕ). bodyOpened v3 y (p .iv) n (p .cipher) m) K-is
-      (u .count ∙ ap (λ (y : List ℕ). keysOpened v3 y (p .keys) .count) (sym e))
-
-  text-is : w ≡ o .done
-  text-is = x .text ∙ ap (λ (y : Opening). y .done) state-is
-
-  blocks-are : blocks ≡ o .count
-  blocks-are = x .blocks ∙ ap (λ (y : Opening). y .count) state-is
-
-  module _ (mac body : List ℕ) (m : mac ≡ p .mac) (b : body ≡ w) {j : Judged} (v : j ≡ verdictOf (kk .l) mac body) where
-    verdict-is : verdictOf (keyL v3 p s) (p .mac) (o .done) ≡ j
-    verdict-is = sym (v ∙ ap₂ (λ (y z : List ℕ). verdictOf y mac z) L-is (b ∙ text-is) ∙ ap (λ (y : List ℕ). verdictOf (keyL v3 p s) y (o .done)) m)
-
-    pub judged-no : j ≡ NotWellFormed → {before after : List ℕ} {r : Reading} → reported r [] ≡ refused 9 c blocks → after ≡ zeros (length before)
-        → Reports (judged v3 (keyK v3 p s) (keyL v3 p s) (p .mac) c o) before after r
-    judged-no f a z =
-        refused-reports 9 c (o .count) (verdict-is-no (keyK v3 p s) (keyL v3 p s) (p .mac) c o (verdict-is ∙ f)) (a ∙ ap (refused 9 c) blocks-are) z
-
-    pub judged-yes : (h q : ℕ) → j ≡ Counts h q → {before after : List ℕ} → length w ≤ length before → before ≡ zeros (length before)
-        → after ≡ w ++ drop (length w) before
-        → Reports (judged v3 (keyK v3 p s) (keyL v3 p s) (p .mac) c o) before after (record { outcome = Accepted h q; k = kk .k; l = kk .l; compressions = c; blocks = blocks })
-    unfolding reported accepted v3 workspaceOf
-    judged-yes h q f {before = before} l zs z =
-        let y = verdict-is-yes (keyK v3 p s) (keyL v3 p s) (p .mac) c o h q (verdict-is ∙ f) in
-        let d : drop (length w) before ≡ zeros (length before - length w) = ap (drop (length w)) zs ∙ drop-same 0 (length w) (length before) l in
-        record {
-          answer = ap (reported (record { outcome = Accepted h q; k = kk .k; l = kk .l; compressions = c; blocks = blocks })) (ap (λ (r : Report). r .body) (y .0))
-              ∙ (λ i. record { number = 0; keyK = K-is i; keyL = L-is i; headers = y .1 i; records = y .2 i; compressions = c; blocks = blocks-are i; body = o .done })
-              ∙ sym (y .0);
-          memory = z ∙ ap (λ (t : List ℕ). w ++ t) d ∙ ap (λ (t : List ℕ). t ++ zeros (length before - length t)) (text-is ∙ sym (ap (λ (r : Report). r .body) (y .0)));
-        }
-
--- four blocks of keys
-pub keys-count : (key keys : List ℕ) {kk : Keys} → Unwrapped key keys kk → kk .count ≡ 4
-unfolding keysOpened
-keys-count key keys u = u .count ∙ opened-count (ecbD (v3 .cipher) key) 4 (zeros 16) keys 0
+-- decrypted into the front of a workspace of zeros, and settled there
+pub unlocked : (file P′ w body mac : List ℕ) (c : ℕ) {keys : Keys} {before after rest : List ℕ} {r : Reading} → Ready file before → Decrypts file P′ w keys
+    → length w ≡ length file - 200 → mac ≡ split file .mac → body ≡ w → Settles keys mac c body after r → rest ≡ drop (length w) before
+    → Reports (settledUnder file P′ c) before (after ++ rest) r
+unlocked file P′ w body mac c {keys} {before} {after} {rest} {r} ready d long m b s₀ e =
+    let s : Settles keys mac c w after r = subst (λ (x : List ℕ). Settles keys mac c x after r) b s₀ in
+    let t = settled v3 (keys .k) (keys .l) mac c (keys .count) w in
+    let same-report : t ≡ settledUnder file P′ c =
+    ap₂ (λ (K L : List ℕ). settled v3 K L mac c (keys .count) w) (d .k) (d .l)
+    ∙ ap₂ (λ (x : List ℕ) (n : ℕ). settled v3 (keyK v3 (split file) P′) (keyL v3 (split file) P′) x c n w) m (d .count)
+    ∙ ap (settled v3 (keyK v3 (split file) P′) (keyL v3 (split file) P′) (split file .mac) c (stateUnder file P′ .count)) (d .text) in
+    let holds : length w ≤ length before = omega (arith, ready .holds) in
+    let zs : rest ≡ zeros (length before - length w) = e ∙ ap (drop (length w)) (ready .blank) ∙ drop-same 0 (length w) (length before) holds in
+    reports-as (sym same-report) (record {
+      answer = s .answer;
+      memory = ap₂ (λ (x y : List ℕ). x ++ y) (s .memory) zs
+          ∙ longer t (length w) (length before) (settled-parts (keys .k) (keys .l) mac c (keys .count) w .0) holds;
+    })
 
 -- the stretcher's states are the edition's
 pub stretched-is : (pass salt : List ℕ) (n : ℕ) {st c : Stretcher} {i : ℕ} → st ≡ stretchedOf i (startOf pass salt) → i ≡ n → c ≡ stepOf st
@@ -205,35 +214,28 @@ stretched-is pass salt n e f g =
     (ap keyOf h, ap keyOf k, ap (λ (x : Stretcher). x .count) k)
 
 -- the check passed, or not
-module _ (file : List ℕ) (s : Stretched) (n : ℕ) where
-  pub checked-passed : same (s .check) (split file .check) ≡ true
-      → checked v3 (split file) s n ≡ judged v3 (keyK v3 (split file) s) (keyL v3 (split file) s) (split file .mac) (s .count) (bodyOf v3 (split file) s n)
+module _ (file : List ℕ) (s : Stretched) where
+  pub checked-passed : same (s .check) (split file .check) ≡ true → checked v3 (split file) s (blocksIn file) ≡ settledUnder file (s .key) (s .count)
   unfolding checked
   checked-passed e = rw e
 
-  pub checked-failed : same (s .check) (split file .check) ≡ false → checked v3 (split file) s n ≡ refused 8 (s .count) 0
+  pub checked-failed : same (s .check) (split file .check) ≡ false → checked v3 (split file) s (blocksIn file) ≡ refused 8 (s .count) 0
   unfolding checked
   checked-failed e = rw e
 
-pub reports-as : {x y : Report} {before after : List ℕ} {r : Reading} → y ≡ x → Reports x before after r → Reports y before after r
-reports-as {before = before} {r = r} e p =
-    record {
-      answer = ap (λ (z : Report). reported r (z .body)) e ∙ p .answer ∙ sym e;
-      memory = p .memory ∙ ap (workspaceOf (length before)) (sym e);
-    }
-
 -- what the early tests leave for the opening
-pub passed-sizes : (file pass : List ℕ) (ceiling room : ℕ) {t : Early} → earlyNumber t ≡ tests file pass ceiling room → t ≡ Early.Passed
-    → (length file ≡ 200 + 16 * ((length file - 200) / 16)) × (length file - 200 ≤ room) × (length file < 2 ^ 32)
+pub ready : (file pass before zeroed : List ℕ) (ceiling : ℕ) {t : Early} → earlyNumber t ≡ earlyReading file pass ceiling (length before) → t ≡ Early.Passed
+    → zeroed ≡ zeros (length before) → Ready file zeroed
 unfolding earlyTests
-passed-sizes file pass ceiling room e f =
-    let g : 0 ≡ tests file pass ceiling room = sym (ap earlyNumber f) ∙ e in
-    go (decide (λ (n : ℕ). n) 0 (earlyTests v3 (split file) ((length file - 200) / 16) file pass ceiling room)) g
+ready file pass before zeroed ceiling e f z = go (decide (λ (n : ℕ). n) 0 tests) (sym (ap earlyNumber f) ∙ e)
   where
-    go : Decided (λ (n : ℕ). n) (earlyTests v3 (split file) ((length file - 200) / 16) file pass ceiling room) 0 → 0 ≡ tests file pass ceiling room
-        → (length file ≡ 200 + 16 * ((length file - 200) / 16)) × (length file - 200 ≤ room) × (length file < 2 ^ 32)
+    tests : List Test
+    tests = earlyTests v3 (split file) (blocksIn file) file pass ceiling (length before)
+
+    go : Decided (λ (n : ℕ). n) tests 0 → 0 ≡ earlyReading file pass ceiling (length before) → Ready file zeroed
     go (passes t q) g =
         let l = good-length (length file) (t .0) in
-        let r = ltb-false room (length file - 200) (t .1 .1 .0) in
-        (omega arith, r, omega arith)
-    go (stops k h q) g = let b = first-between 1 7 k {ts = earlyTests v3 (split file) ((length file - 200) / 16) file pass ceiling room} refl h in absurd (omega arith)
+        let r = ltb-false (length before) (length file - 200) (t .1 .1 .0) in
+        let n : length zeroed ≡ length before = ap length z ∙ length-replicate (length before) 0 in
+        record { whole = omega arith; holds = omega arith; short = omega arith; blank = z ∙ ap zeros (sym n) }
+    go (stops k h q) g = let b = first-between 1 7 k {ts = tests} refl h in absurd (omega arith)

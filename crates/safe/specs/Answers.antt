@@ -29,13 +29,13 @@ abbrev pub outcomeNumber : Outcome → ℕ
 outcomeNumber (Outcome.Accepted h r) = 0
 outcomeNumber (Outcome.Refused x) = refusalNumber x
 
-abbrev pub headersIn : Outcome → ℕ
-headersIn (Outcome.Accepted h r) = h
-headersIn (Outcome.Refused x) = 0
+abbrev pub headerCount : Outcome → ℕ
+headerCount (Outcome.Accepted h r) = h
+headerCount (Outcome.Refused x) = 0
 
-abbrev pub recordsIn : Outcome → ℕ
-recordsIn (Outcome.Accepted h r) = r
-recordsIn (Outcome.Refused x) = 0
+abbrev pub recordCount : Outcome → ℕ
+recordCount (Outcome.Accepted h r) = r
+recordCount (Outcome.Refused x) = 0
 
 abbrev pub earlyNumber : Early → ℕ
 earlyNumber Early.Passed = 0
@@ -52,8 +52,8 @@ reported r body =
       number = outcomeNumber (r .outcome);
       keyK = r .k;
       keyL = r .l;
-      headers = headersIn (r .outcome);
-      records = recordsIn (r .outcome);
+      headers = headerCount (r .outcome);
+      records = recordCount (r .outcome);
       compressions = r .compressions;
       blocks = r .blocks;
       body = body;

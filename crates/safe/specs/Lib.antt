@@ -1,6 +1,6 @@
 pub mod V3
 pub mod Answers
+pub mod Calls
 pub mod Steps
 pub mod Laying
 pub mod Part
-pub mod Calls

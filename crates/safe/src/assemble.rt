@@ -2,23 +2,42 @@
 use super::Refusal;
 use super::Written;
 use super::seal::seal;
-use super::values::lay;
-use super::wrap::wrap;
 use file::first_marker;
 use file::marker;
 use stretch::Stretcher;
 use words::numbers::byte;
+use words::slices::copy;
 use words::slices::zero;
 ghost use mathlib.Core.Path.{_≡_};
-ghost use mathlib.Core.Bool.{true};
 ghost use mathlib.Core.List.{_++_};
-ghost use Prim.Native.Nat.{_+_, _-_, _*_, _/_, _≤_};
-ghost use lib.ListN.{length};
+ghost use Prim.Native.Nat.{_+_, _≤_};
+ghost use lib.ListN.{length, take, drop};
 ghost use Rattle.words.specs.Slices.{zeros};
-ghost use Rattle.body.specs.Decision.{wellFormed};
-ghost use Rattle.safe.specs.V3.{stretchedV3};
+ghost use Rattle.file.specs.Description.{wrapped};
+ghost use Rattle.safe.specs.V3.{v3};
 ghost use Rattle.safe.specs.Answers.{writtenNumber};
-ghost use Rattle.safe.specs.Laying.{headOf, Laid};
+ghost use Rattle.safe.specs.Laying.{Headed, Blank, Laid};
+
+// `part` into `output` from `at` on.
+fn lay(output: &mut [u8], at: usize, part: &[u8])
+    requires { ⌜ at + length (now part) ≤ length (now output) ⌝ }
+    ensures { λ _. ⌜ now (output .exit)
+        ≡ take at (now (output .entry)) ++ (now (part .entry) ++ drop (at + length (now (part .entry))) (now (output .entry))) ⌝ }
+{
+    let e = at + part.len();
+    copy(&mut output[at..e], part);
+}
+
+// The two keys, side by side under P'.
+fn wrap(key: &[u8; 32], k: &[u8; 32], l: &[u8; 32]) -> [u8; 64]
+    ensures { λ r. ⌜ (r ≡ wrapped v3 (now (key .entry)) (now (k .entry)) (now (l .entry))) × (length r ≡ 64) ⌝ }
+{
+    let mut w = [0u8; 64];
+    lay(&mut w, 0, k);
+    lay(&mut w, 32, l);
+    chain::ecb_encrypt(key, &mut w);
+    w
+}
 
 // Everything before the body: 152 bytes.
 fn head(
@@ -31,7 +50,8 @@ fn head(
     output: &mut [u8],
 )
     requires { ⌜ (now output ≡ zeros (length (now output))) × (152 ≤ length (now output)) ⌝ }
-    ensures { λ _. ⌜ now (output .exit) ≡ headOf (stretchedV3 (now (passphrase .entry)) (now (salt .entry)) iter) (now (salt .entry)) iter (now (k .entry)) (now (l .entry)) (now (iv .entry)) ++ zeros (length (now (output .entry)) - 152) ⌝ }
+    ensures { λ _. ⌜ Headed (now (passphrase .entry)) (now (salt .entry)) iter (now (k .entry)) (now (l .entry)) (now (iv .entry))
+        (length (now (output .entry))) (now (output .exit)) ⌝ }
 {
     let s = Stretcher::start(passphrase, salt).stretched(iter);
     let c = s.step();
@@ -57,8 +77,9 @@ pub fn file(
     body: &[u8],
     output: &mut [u8],
 ) -> Written
-    requires { ⌜ (now output ≡ zeros (length (now output))) × (length (now body) + 200 ≤ length (now output)) × (length (now body) ≡ 16 * (length (now body) / 16)) × (wellFormed (now body) ≡ true) ⌝ }
-    ensures { λ r. ⌜ Laid (now (passphrase .entry)) (now (salt .entry)) iter (now (k .entry)) (now (l .entry)) (now (iv .entry)) (now (body .entry)) (length (now (output .entry))) (writtenNumber r) (now (output .exit)) ⌝ }
+    requires { ⌜ Blank (now body) (now output) ⌝ }
+    ensures { λ r. ⌜ Laid (now (passphrase .entry)) (now (salt .entry)) iter (now (k .entry)) (now (l .entry)) (now (iv .entry)) (now (body .entry))
+        (length (now (output .entry))) (writtenNumber r) (now (output .exit)) ⌝ }
 {
     head(passphrase, salt, iter, k, l, iv, output);
     let n = body.len();

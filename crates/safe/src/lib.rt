@@ -1,18 +1,15 @@
 // Password Safe V3 files, read and written whole in lent memory.
 mod assemble;
+mod decrypt;
 mod open;
+mod refusals;
 mod seal;
-mod tests;
-mod values;
-mod wrap;
+mod settle;
 
 ghost use mathlib.Core.Path.{_≡_};
-ghost use lib.ListN.{length};
-ghost use Rattle.file.specs.Reading.{readingOf};
-ghost use Rattle.file.specs.Writing.{writingOf};
-ghost use Rattle.safe.specs.V3.{v3};
-ghost use Rattle.safe.specs.Answers.{writtenNumber};
-ghost use Rattle.safe.specs.Steps.{Reports};
+ghost use mathlib.Core.Bool.{true};
+ghost use Rattle.words.specs.Numbers.{Bytes};
+ghost use Rattle.safe.specs.Calls.{Reads, Writes};
 
 // Why a file is not read, or not written: document 01's numbers 1 to 10, in their order.
 pub enum Refusal {
@@ -57,15 +54,22 @@ pub enum Written {
 // A file read whole. Accepted: the keys, the counts of header fields and records, and the workspace holds the body and zeros after it.
 // Refused: keys and these counts zero, and every byte of the workspace zero.
 pub fn read(file: &[u8], passphrase: &[u8], ceiling: u32, workspace: &mut [u8]) -> Reading
-    ensures { λ r. ⌜ Reports (readingOf v3 (now (file .entry)) (now (passphrase .entry)) ceiling (length (now (workspace .entry)))) (now (workspace .entry)) (now (workspace .exit)) r ⌝ }
+    ensures { λ r. ⌜ Reads (now (file .entry)) (now (passphrase .entry)) ceiling (now (workspace .entry)) (now (workspace .exit)) r ⌝ }
 {
     let room = workspace.len();
     words::slices::zero(workspace);
-    let t = tests::reading(file, passphrase, ceiling, room);
+    let t = refusals::reading(file, passphrase, ceiling, room);
     match t {
-        Early::Refused(x) => open::refused(x, 0, 0),
+        Early::Refused(x) => settle::refused(x, 0, 0),
         Early::Passed => open::open(file, passphrase, workspace),
     }
+}
+
+// Always true. The call brings into the proof what the type of an array says of it: how many bytes it holds, and that they are bytes.
+fn known(s: &[u8]) -> bool
+    ensures { λ r. ⌜ (r ≡ true) × Bytes (now (s .entry)) ⌝ }
+{
+    words::slices::same(s, s)
 }
 
 // A body written as a file under values that the caller supplies. Done: the output holds the file and zeros after it. Refused: all zero.
@@ -79,11 +83,16 @@ pub fn write(
     body: &[u8],
     output: &mut [u8],
 ) -> Written
-    ensures { λ r. ⌜ (writtenNumber r ≡ writingOf v3 (now (passphrase .entry)) (now (salt .entry)) iter (now (k .entry)) (now (l .entry)) (now (iv .entry)) (now (body .entry)) (length (now (output .entry))) .number) × (now (output .exit) ≡ writingOf v3 (now (passphrase .entry)) (now (salt .entry)) iter (now (k .entry)) (now (l .entry)) (now (iv .entry)) (now (body .entry)) (length (now (output .entry))) .output) ⌝ }
+    ensures { λ r. ⌜ Writes (now (passphrase .entry)) (now (salt .entry)) iter (now (k .entry)) (now (l .entry)) (now (iv .entry)) (now (body .entry))
+        (now (output .entry)) (now (output .exit)) r ⌝ }
 {
+    known(salt);
+    known(k);
+    known(l);
+    known(iv);
     let room = output.len();
     words::slices::zero(output);
-    let t = tests::writing(passphrase, iter, body, room);
+    let t = refusals::writing(passphrase, iter, body, room);
     match t {
         Early::Refused(x) => Written::Refused(x),
         Early::Passed => assemble::file(passphrase, salt, iter, k, l, iv, body, output),

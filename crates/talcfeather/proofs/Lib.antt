@@ -1,4 +1,4 @@
-pub mod Stored
+pub mod InBytes
 mod Values
 mod Keys
 pub mod OneAnswer

@@ -6,9 +6,14 @@ use Rattle.words.specs.Numbers.{bytesLow}
 use Rattle.words.specs.Slices.{zeros}
 
 -- n numbers: the values of an answer, and zeros after them
-abbrev pub padded : ℕ → List ℕ → List ℕ
-padded n l = take n (l ++ zeros n)
+abbrev pub withZeros : ℕ → List ℕ → List ℕ
+withZeros n l = take n (l ++ zeros n)
 
-unfoldable pub stored : List ℕ → List ℕ
-stored [] = []
-stored (x ∷ xs) = bytesLow 8 x ++ stored xs
+-- 1 before the values, where there are any
+abbrev pub marked : List ℕ → List ℕ
+marked [] = []
+marked (x ∷ l) = 1 ∷ x ∷ l
+
+unfoldable pub inBytes : List ℕ → List ℕ
+inBytes [] = []
+inBytes (x ∷ xs) = bytesLow 8 x ++ inBytes xs

@@ -3,19 +3,21 @@ use Prim.Native.Nat.{ℕ}
 use mathlib.Core.Path.{_≡_}
 use mathlib.Core.List.{List, [], _∷_, _++_}
 use lib.ListN.{length}
+use Rattle.words.specs.Numbers.{Bytes}
 use Rattle.file.specs.Reading.{Report, readingOf, workspaceOf}
 use Rattle.safe.specs.V3.{v3}
-use Rattle.talcfeather.specs.Numbers.{stored}
+use Rattle.talcfeather.specs.Numbers.{inBytes}
 
 -- header fields, records, compressions and blocks
 abbrev pub readNumbers : Report → List ℕ
 readNumbers r = r .headers ∷ r .records ∷ r .compressions ∷ r .blocks ∷ []
 
-unfoldable pub readBytes : Report → List ℕ
-readBytes r = r .keyK ++ (r .keyL ++ stored (readNumbers r))
+unfoldable pub answerBytes : Report → List ℕ
+answerBytes r = r .keyK ++ (r .keyL ++ inBytes (readNumbers r))
 
 -- the workspace holds `before` at first, of which only the length counts
-pub record Reads (file passphrase : List ℕ) (ceiling : ℕ) (before : List ℕ) (number : ℕ) (workspace answer : List ℕ) : Type 0 where
+pub record TalcRead (file passphrase : List ℕ) (ceiling : ℕ) (before : List ℕ) (number : ℕ) (workspace answer : List ℕ) : Type 0 where
+  pub bytes : Bytes file
   pub is-number : number ≡ readingOf v3 file passphrase ceiling (length before) .number
   pub is-workspace : workspace ≡ workspaceOf (length before) (readingOf v3 file passphrase ceiling (length before))
-  pub is-answer : answer ≡ readBytes (readingOf v3 file passphrase ceiling (length before))
+  pub is-answer : answer ≡ answerBytes (readingOf v3 file passphrase ceiling (length before))

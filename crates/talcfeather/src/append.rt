@@ -4,7 +4,7 @@ use fields::Appended;
 ghost use mathlib.Core.Path.{_≡_};
 ghost use Rattle.fields.specs.Stored.{stored};
 ghost use Rattle.fields.specs.Append.{appendNumber};
-ghost use Rattle.talcfeather.specs.Append.{appendNumbers, Appends};
+ghost use Rattle.talcfeather.specs.Append.{appendNumbers, TalcAppend};
 
 fn append_numbers(a: Appended) -> [u64; 1]
     ensures { λ r. ⌜ r ≡ appendNumbers a ⌝ }
@@ -39,7 +39,8 @@ pub extern "C" fn talc_append(
     fill: &[u8],
     next: &mut [u8; 8],
 ) -> u32
-    ensures { λ r. ⌜ Appends (now (buffer .entry)) place (stored kind (now (content .entry)) (now (fill .entry))) r (now (buffer .exit)) (now (next .exit)) ⌝ }
+    ensures { λ r. ⌜ TalcAppend (now (buffer .entry)) place (stored kind (now (content .entry)) (now (fill .entry)))
+        r (now (buffer .exit)) (now (next .exit)) ⌝ }
 {
     let a = fields::append(buffer, place, kind, content, fill);
     let numbers = append_numbers(a);

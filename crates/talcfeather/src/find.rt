@@ -5,7 +5,7 @@ use fields::Value;
 ghost use mathlib.Core.Path.{_≡_};
 ghost use lib.ListN.{length};
 ghost use Rattle.body.specs.Find.{findNumber};
-ghost use Rattle.talcfeather.specs.Find.{findNumbers, soughtOf, Finds};
+ghost use Rattle.talcfeather.specs.Find.{findNumbers, soughtOf, TalcFind};
 
 fn find_numbers(s: Sought) -> [u64; 3]
     ensures { λ r. ⌜ r ≡ findNumbers s ⌝ }
@@ -41,7 +41,7 @@ fn sought(body: &[u8], uuid: &[u8]) -> Sought
 
 #[no_mangle]
 pub extern "C" fn talc_find(body: &[u8], uuid: &[u8; 16], answer: &mut [u8; 24]) -> u32
-    ensures { λ r. ⌜ Finds (now (body .entry)) (now (uuid .entry)) r (now (answer .exit)) ⌝ }
+    ensures { λ r. ⌜ TalcFind (now (body .entry)) (now (uuid .entry)) r (now (answer .exit)) ⌝ }
 {
     let s = sought(body, uuid);
     let numbers = find_numbers(s);

@@ -3,7 +3,7 @@ use super::numbers::store;
 use body::Judged;
 ghost use mathlib.Core.Path.{_≡_};
 ghost use Rattle.body.specs.Decision.{judgeNumber};
-ghost use Rattle.talcfeather.specs.Judge.{judgeNumbers, Judges};
+ghost use Rattle.talcfeather.specs.Judge.{judgeNumbers, TalcJudge};
 
 fn judge_numbers(j: Judged) -> [u64; 2]
     ensures { λ r. ⌜ r ≡ judgeNumbers j ⌝ }
@@ -25,7 +25,7 @@ fn judge_number(j: Judged) -> u32
 
 #[no_mangle]
 pub extern "C" fn talc_judge(body: &[u8], answer: &mut [u8; 16]) -> u32
-    ensures { λ r. ⌜ Judges (now (body .entry)) r (now (answer .exit)) ⌝ }
+    ensures { λ r. ⌜ TalcJudge (now (body .entry)) r (now (answer .exit)) ⌝ }
 {
     let j = body::judge(body);
     let numbers = judge_numbers(j);

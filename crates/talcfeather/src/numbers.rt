@@ -4,11 +4,11 @@ ghost use mathlib.Core.Path.{_≡_};
 ghost use mathlib.Core.Bool.{cond};
 ghost use Prim.Native.Nat.{_*_};
 ghost use lib.ListN.{length};
-ghost use Rattle.talcfeather.specs.Numbers.{stored};
+ghost use Rattle.talcfeather.specs.Numbers.{inBytes};
 
 pub fn store(numbers: &[u64], memory: &mut [u8])
     requires { ⌜ length (now memory) ≡ 8 * length (now numbers) ⌝ }
-    ensures { λ _. ⌜ now (memory .exit) ≡ stored (now (numbers .entry)) ⌝ }
+    ensures { λ _. ⌜ now (memory .exit) ≡ inBytes (now (numbers .entry)) ⌝ }
 {
     let mut i: usize = 0;
     while i < memory.len() {

@@ -6,9 +6,9 @@ use words::slices::copy;
 ghost use mathlib.Core.Path.{_≡_};
 ghost use mathlib.Core.List.{[], _∷_, _++_};
 ghost use lib.ListN.{length};
-ghost use Rattle.safe.specs.Answers.{outcomeNumber, headersIn, recordsIn};
-ghost use Rattle.talcfeather.specs.Numbers.{stored};
-ghost use Rattle.talcfeather.specs.Read.{Reads};
+ghost use Rattle.safe.specs.Answers.{outcomeNumber, headerCount, recordCount};
+ghost use Rattle.talcfeather.specs.Numbers.{inBytes};
+ghost use Rattle.talcfeather.specs.Read.{TalcRead};
 
 fn outcome_number(o: Outcome) -> u32
     ensures { λ r. ⌜ r ≡ outcomeNumber o ⌝ }
@@ -20,7 +20,7 @@ fn outcome_number(o: Outcome) -> u32
 }
 
 fn read_numbers(o: Outcome, compressions: u64, blocks: u64) -> [u64; 4]
-    ensures { λ r. ⌜ r ≡ headersIn o ∷ recordsIn o ∷ compressions ∷ blocks ∷ [] ⌝ }
+    ensures { λ r. ⌜ r ≡ headerCount o ∷ recordCount o ∷ compressions ∷ blocks ∷ [] ⌝ }
 {
     match o {
         Outcome::Accepted(headers, records) => [
@@ -36,7 +36,7 @@ fn read_numbers(o: Outcome, compressions: u64, blocks: u64) -> [u64; 4]
 // K, L and the numbers, each in its part of the answer.
 fn lay(k: &[u8], l: &[u8], numbers: &[u64], answer: &mut [u8])
     requires { ⌜ (length (now k) ≡ 32) × (length (now l) ≡ 32) × (length (now numbers) ≡ 4) × (length (now answer) ≡ 96) ⌝ }
-    ensures { λ _. ⌜ now (answer .exit) ≡ now (k .entry) ++ (now (l .entry) ++ stored (now (numbers .entry))) ⌝ }
+    ensures { λ _. ⌜ now (answer .exit) ≡ now (k .entry) ++ (now (l .entry) ++ inBytes (now (numbers .entry))) ⌝ }
 {
     copy(&mut answer[0..32], k);
     copy(&mut answer[32..64], l);
@@ -51,7 +51,7 @@ pub extern "C" fn talc_read(
     workspace: &mut [u8],
     answer: &mut [u8; 96],
 ) -> u32
-    ensures { λ r. ⌜ Reads (now (file .entry)) (now (passphrase .entry)) ceiling (now (workspace .entry)) r (now (workspace .exit)) (now (answer .exit)) ⌝ }
+    ensures { λ r. ⌜ TalcRead (now (file .entry)) (now (passphrase .entry)) ceiling (now (workspace .entry)) r (now (workspace .exit)) (now (answer .exit)) ⌝ }
 {
     let r = safe::read(file, passphrase, ceiling, workspace);
     let o = r.outcome;

@@ -9,7 +9,7 @@ use fields::Walked;
 ghost use mathlib.Core.Path.{_≡_};
 ghost use Rattle.fields.specs.Value.{valueNumbers};
 ghost use Rattle.fields.specs.Walk.{walkNumber};
-ghost use Rattle.talcfeather.specs.Walk.{fieldNumbers, walkNumbers, Walks};
+ghost use Rattle.talcfeather.specs.Walk.{fieldNumbers, walkNumbers, TalcWalk};
 
 // The kind of a value, and the numbers that it holds.
 fn value_numbers(v: Value) -> [u64; 3]
@@ -76,7 +76,7 @@ pub extern "C" fn talc_walk(
     in_record: bool,
     answer: &mut [u8; 72],
 ) -> u32
-    ensures { λ r. ⌜ Walks (now (body .entry)) place «in_record» r (now (answer .exit)) ⌝ }
+    ensures { λ r. ⌜ TalcWalk (now (body .entry)) place «in_record» r (now (answer .exit)) ⌝ }
 {
     let c = Cursor {
         place: place,

@@ -3,7 +3,7 @@ use super::refusal::number;
 use safe::Written;
 ghost use mathlib.Core.Path.{_≡_};
 ghost use Rattle.safe.specs.Answers.{writtenNumber};
-ghost use Rattle.talcfeather.specs.Write.{Writes};
+ghost use Rattle.talcfeather.specs.Write.{TalcWrite};
 
 fn write_number(w: Written) -> u32
     ensures { λ r. ⌜ r ≡ writtenNumber w ⌝ }
@@ -25,7 +25,8 @@ pub extern "C" fn talc_write(
     body: &[u8],
     output: &mut [u8],
 ) -> u32
-    ensures { λ r. ⌜ Writes (now (passphrase .entry)) (now (salt .entry)) iter (now (k .entry)) (now (l .entry)) (now (iv .entry)) (now (body .entry)) (now (output .entry)) r (now (output .exit)) ⌝ }
+    ensures { λ r. ⌜ TalcWrite (now (passphrase .entry)) (now (salt .entry)) iter (now (k .entry)) (now (l .entry)) (now (iv .entry)) (now (body .entry))
+        (now (output .entry)) r (now (output .exit)) ⌝ }
 {
     let w = safe::write(passphrase, salt, iter, k, l, iv, body, output);
     write_number(w)

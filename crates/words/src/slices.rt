@@ -39,3 +39,20 @@ pub fn same(a: &[u8], b: &[u8]) -> bool
     }
     true
 }
+
+// The first 16 bytes as a value of fixed size, zeros where s is shorter.
+pub fn first_16(s: &[u8]) -> [u8; 16]
+    ensures { λ r. ⌜ r ≡ copied (zeros 16) (now (s .entry)) ⌝ }
+{
+    let mut v = [0u8; 16];
+    copy(&mut v, s);
+    v
+}
+
+pub fn first_32(s: &[u8]) -> [u8; 32]
+    ensures { λ r. ⌜ r ≡ copied (zeros 32) (now (s .entry)) ⌝ }
+{
+    let mut v = [0u8; 32];
+    copy(&mut v, s);
+    v
+}

@@ -24,7 +24,7 @@ returns c =
     let H = headOf (stretchedV3 (now (t .args .passphrase)) (now (t .args .salt)) (t .args .iter)) (now (t .args .salt)) (t .args .iter) K (now (t .args .l)) iv in
     let o1 = c .before .before .before .before .before .before .before .before .before .before .before .before .before .before .head .last .1 .1 .1 .1 .1 .1 .0 in
     let new = c .before .before .before .before .before .before .before .before .before .before .cbc-encrypt .last .1 .1 .1 .0 in
-    let h : 200 + length body ≤ n = omega (arith, t .pre .1) in
+    let h : 200 + length body ≤ n = omega (arith, t .pre .holds) in
     let lo : length o1 ≡ n = omega (arith, c .before .before .before .before .before .before .before .before .before .before .before .before .before .output .given) in
     let ln : length new ≡ length (take (152 + length body - 152) (drop 152 o1)) = c .before .before .before .before .before .before .before .before .before .output2 .given .0 in
     let e1 = c .before .before .before .before .before .before .before .before .before .before .before .before .before .before .head .ensures in
@@ -33,10 +33,10 @@ returns c =
     let o2 : List ℕ = take 152 o1 ++ (new ++ drop (152 + length body - 152) (drop 152 o1)) in
     let l3 : length o2 ≡ n = omega (arith, l2, lo) in
     laid-refused (now (t .args .passphrase)) (now (t .args .salt)) (t .args .iter) K (now (t .args .l)) iv body n new _
-    (new-is H K iv body o1 new n h (t .pre .2) lo e1 ln en) (new-long H K iv body o1 new n h (t .pre .2) lo e1 ln en) (c .before .before .before .before .before .first-marker .ensures) (part-is H K iv body o1 new n h (t .pre .2) lo e1 ln en _ refl) (c .before .before .before .before .if1 .taken) (c .before .before .zero .ensures ∙ ap zeros l3)
+    (new-is H K iv body o1 new n h (t .pre .whole) lo e1 ln en) (new-long H K iv body o1 new n h (t .pre .whole) lo e1 ln en) (c .before .before .before .before .before .first-marker .ensures) (part-is H K iv body o1 new n h (t .pre .whole) lo e1 ln en _ refl) (c .before .before .before .before .if1 .taken) (c .before .before .zero .ensures ∙ ap zeros l3)
 
 add-lay : tie.Need-add-lay
-add-lay c = omega (arith, c .before .before .before .before .before .before .before .before .before .before .before .before .before .before .before .before .before .before .before .before .before .before .before .pre .1, c .before .before .before .before .before .before .before .before .before .before .before .before .before .before .before .before .before .before .before .before .before .before .before .good)
+add-lay c = omega (arith, c .before .before .before .before .before .before .before .before .before .before .before .before .before .before .before .before .before .before .before .before .before .before .before .pre .holds, c .before .before .before .before .before .before .before .before .before .before .before .before .before .before .before .before .before .before .before .before .before .before .before .good)
 
 returns-2 : tie.Need-returns-2
 returns-2 c =
@@ -48,14 +48,14 @@ returns-2 c =
     let H = headOf (stretchedV3 (now (t .args .passphrase)) (now (t .args .salt)) (t .args .iter)) (now (t .args .salt)) (t .args .iter) K (now (t .args .l)) iv in
     let o1 = c .before .before .before .before .before .before .before .before .before .before .before .before .before .before .before .before .before .before .before .before .before .before .head .last .1 .1 .1 .1 .1 .1 .0 in
     let new = c .before .before .before .before .before .before .before .before .before .before .before .before .before .before .before .before .before .before .cbc-encrypt .last .1 .1 .1 .0 in
-    let h : 200 + length body ≤ n = omega (arith, t .pre .1) in
+    let h : 200 + length body ≤ n = omega (arith, t .pre .holds) in
     let lo : length o1 ≡ n = omega (arith, c .before .before .before .before .before .before .before .before .before .before .before .before .before .before .before .before .before .before .before .before .before .output .given) in
     let ln : length new ≡ length (take (152 + length body - 152) (drop 152 o1)) = c .before .before .before .before .before .before .before .before .before .before .before .before .before .before .before .before .before .output2 .given .0 in
     let e1 = c .before .before .before .before .before .before .before .before .before .before .before .before .before .before .before .before .before .before .before .before .before .before .head .ensures in
     let en = c .before .before .before .before .before .before .before .before .before .before .before .before .before .before .before .before .before .before .cbc-encrypt .ensures in
     laid-done (now (t .args .passphrase)) (now (t .args .salt)) (t .args .iter) K (now (t .args .l)) iv body n new _ _ _ h
-    (new-is H K iv body o1 new n h (t .pre .2) lo e1 ln en) (new-long H K iv body o1 new n h (t .pre .2) lo e1 ln en) (head-is-long H K iv body o1 new n h (t .pre .2) lo e1 ln en) (c .before .before .before .before .before .before .before .before .before .before .before .before .before .first-marker .ensures) (part-is H K iv body o1 new n h (t .pre .2) lo e1 ln en _ refl) (c .before .before .before .before .before .before .before .before .before .before .before .before .if1 .left)
-    (c .before .before .before .before .before .before .before .before .before .before .before .marker .ensures) (c .before .before .before .before .before .seal .ensures) (ap length (c .before .before .before .before .before .seal .ensures) ∙ hmac-sized _ _ .long) (body-laid H K iv body o1 new n h (t .pre .2) lo e1 ln en _ refl) (c .before .before .before .before .before .before .before .before .lay .ensures) (c .before .before .lay2 .ensures)
+    (new-is H K iv body o1 new n h (t .pre .whole) lo e1 ln en) (new-long H K iv body o1 new n h (t .pre .whole) lo e1 ln en) (head-is-long H K iv body o1 new n h (t .pre .whole) lo e1 ln en) (c .before .before .before .before .before .before .before .before .before .before .before .before .before .first-marker .ensures) (part-is H K iv body o1 new n h (t .pre .whole) lo e1 ln en _ refl) (c .before .before .before .before .before .before .before .before .before .before .before .before .if1 .left)
+    (c .before .before .before .before .before .before .before .before .before .before .before .marker .ensures) (c .before .before .before .before .before .seal .ensures) (ap length (c .before .before .before .before .before .seal .ensures) ∙ hmac-sized _ _ .long) (body-laid H K iv body o1 new n h (t .pre .whole) lo e1 ln en _ refl) (c .before .before .before .before .before .before .before .before .lay .ensures) (c .before .before .lay2 .ensures)
 
 pub file-spec : {M : Type 1} → statement M
 file-spec =

@@ -1,7 +1,7 @@
 -- `talcfeather::find::talc_find` meets its contract: number and answer are those of `sought`.
 use mathlib.Core.Path.{ap, _∙_}
 use Rattle.body.specs.Find.{findNumber}
-use Rattle.talcfeather.specs.Numbers.{stored}
+use Rattle.talcfeather.specs.Numbers.{inBytes}
 use Rattle.talcfeather.specs.Find.{findNumbers}
 use borrow.Author.Needs.{needs}
 use Rattle.talcfeather.proofs.find.talc_find.Statement.{statement}
@@ -12,7 +12,7 @@ returns c =
     let said = c .before .before .before .before .before .sought .ensures in
     record {
       is-number = c .find-number .ensures ∙ ap findNumber said;
-      is-answer = c .before .store .ensures ∙ ap stored (c .before .before .before .before .find-numbers .ensures ∙ ap findNumbers said);
+      is-answer = c .before .store .ensures ∙ ap inBytes (c .before .before .before .before .find-numbers .ensures ∙ ap findNumbers said);
     }
 
 pub talc-find-spec : {M : Type 1} → statement M

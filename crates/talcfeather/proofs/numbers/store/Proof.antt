@@ -8,8 +8,8 @@ use borrow.Author.Needs.{needs}
 use lib.ListN.{length, getD, set, length-set}
 use lib.Seq.{paste, paste-zero, paste-suc}
 use Rattle.words.specs.Numbers.{byteOf}
-use Rattle.talcfeather.specs.Numbers.{stored}
-use Rattle.talcfeather.proofs.Stored.{stored-length, stored-at, all-stored}
+use Rattle.talcfeather.specs.Numbers.{inBytes}
+use Rattle.talcfeather.proofs.InBytes.{stored-length, stored-at, all-stored}
 use Rattle.talcfeather.proofs.numbers.store.Statement.{statement}
 use Rattle.talcfeather.proofs.numbers.store.Tie as tie
 
@@ -20,14 +20,14 @@ abbrev μ-loop : tie.MeasureT-loop
 μ-loop numbers memory₀ i₀ memory i = length memory₀ - i
 
 loop-holds : tie.Need-loop-holds Inv-loop μ-loop
-loop-holds c = (search needs, search needs, paste-zero (c .before .before .args .memory .now) 0 (stored (c .before .before .args .numbers .now)))
+loop-holds c = (search needs, search needs, paste-zero (c .before .before .args .memory .now) 0 (inBytes (c .before .before .args .numbers .now)))
 
 loop-again : tie.Need-loop-again Inv-loop μ-loop
 loop-again c =
     let a = c .before .before .before .before .before .before .args in
     let i = c .before .before .before .loop .i in
     let v = c .before .before .before .loop .inv in
-    let s = stored (a .numbers .now) in
+    let s = inBytes (a .numbers .now) in
     let m = a .memory .now in
     let n = stored-length (a .numbers .now) in
     let here : i < 8 * length (a .numbers .now) = omega arith in
@@ -46,7 +46,7 @@ returns c =
     let a = c .before .before .before .before .args in
     let v = c .before .loop .inv in
     let n = stored-length (a .numbers .now) in
-    v .2 ∙ all-stored (a .memory .now) (stored (a .numbers .now)) (c .before .loop .i) (omega (arith, n)) (omega (arith, n))
+    v .2 ∙ all-stored (a .memory .now) (inBytes (a .numbers .now)) (c .before .loop .i) (omega (arith, n)) (omega (arith, n))
 
 pub store-spec : {M : Type 1} → statement M
 store-spec =

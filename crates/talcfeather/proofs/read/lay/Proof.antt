@@ -1,8 +1,8 @@
 -- `talcfeather::read::lay` meets its contract, by the law of the three parts.
 use mathlib.Core.Path.{ap, _∙_}
 use Prim.Native.Nat.{_*_}
-use Rattle.talcfeather.specs.Numbers.{stored}
-use Rattle.talcfeather.proofs.Stored.{stored-length}
+use Rattle.talcfeather.specs.Numbers.{inBytes}
+use Rattle.talcfeather.proofs.InBytes.{stored-length}
 use Rattle.talcfeather.proofs.Keys.{three-parts}
 use borrow.Author.Needs.{needs}
 use Rattle.talcfeather.proofs.read.lay.Statement.{statement}
@@ -12,7 +12,7 @@ returns : tie.Need-returns
 returns c =
     let s = c .before .before .before .before .before .before .before .before .before .before .before .before .before .before .before .before in
     let a = s .args in
-    three-parts (a .answer .now) (a .k .now) (a .l .now) (stored (a .numbers .now)) _ _ _
+    three-parts (a .answer .now) (a .k .now) (a .l .now) (inBytes (a .numbers .now)) _ _ _
     (s .pre .3) (s .pre .0) (s .pre .1) (stored-length (a .numbers .now) ∙ ap (_*_ 8) (s .pre .2))
     (c .before .before .before .before .before .before .before .before .before .before .copy .ensures) (c .before .before .before .before .before .before .copy2 .ensures) (c .before .before .store .ensures)
 

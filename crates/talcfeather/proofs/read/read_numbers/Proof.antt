@@ -2,14 +2,14 @@
 use mathlib.Core.Path.{sym, ap}
 use mathlib.Core.List.{List, [], _∷_}
 use Prim.Native.Nat.{ℕ}
-use Rattle.safe.specs.Answers.{headersIn, recordsIn}
+use Rattle.safe.specs.Answers.{headerCount, recordCount}
 use Rattle.safe.specs.declared.Outcome.{Outcome}
 use borrow.Author.Needs.{needs}
 use Rattle.talcfeather.proofs.read.read_numbers.Statement.{statement}
 use Rattle.talcfeather.proofs.read.read_numbers.Tie as tie
 
 abbrev counted : ℕ → ℕ → Outcome → List ℕ
-counted n m o = headersIn o ∷ recordsIn o ∷ n ∷ m ∷ []
+counted n m o = headerCount o ∷ recordCount o ∷ n ∷ m ∷ []
 
 returns : tie.Need-returns
 returns c = sym (ap (counted (c .before .before .before .args .compressions) (c .before .before .before .args .blocks)) (c .before .o .given .1))

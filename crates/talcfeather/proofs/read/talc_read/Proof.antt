@@ -4,21 +4,21 @@ use mathlib.Core.List.{List, _++_}
 use Prim.Native.Nat.{ℕ}
 use Rattle.file.specs.Reading.{Report}
 use Rattle.safe.specs.Answers.{reported}
-use Rattle.talcfeather.specs.Numbers.{stored}
-use Rattle.talcfeather.specs.Read.{readBytes}
+use Rattle.talcfeather.specs.Numbers.{inBytes}
+use Rattle.talcfeather.specs.Read.{answerBytes}
 use borrow.Author.Needs.{needs}
 use Rattle.talcfeather.proofs.read.talc_read.Statement.{statement}
 use Rattle.talcfeather.proofs.read.talc_read.Tie as tie
 
 returns : tie.Need-returns
-unfolding reported readBytes
+unfolding reported answerBytes
 returns c =
     let r = c .before .before .before .before .before .before .before .before .before .before .before .read .result in
     let said = c .before .before .before .before .before .before .before .before .before .before .before .read .ensures in
     record {
       is-number = c .outcome-number .ensures ∙ ap (λ (x : Report). x .number) (said .answer);
       is-workspace = said .memory;
-      is-answer = c .before .lay .ensures ∙ ap (λ (l : List ℕ). r .k ++ (r .l ++ stored l)) (c .before .before .before .before .before .before .read-numbers .ensures) ∙ ap readBytes (said .answer);
+      is-answer = c .before .lay .ensures ∙ ap (λ (l : List ℕ). r .k ++ (r .l ++ inBytes l)) (c .before .before .before .before .before .before .read-numbers .ensures) ∙ ap answerBytes (said .answer);
     }
 
 pub talc-read-spec : {M : Type 1} → statement M

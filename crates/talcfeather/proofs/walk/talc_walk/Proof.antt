@@ -1,7 +1,7 @@
 -- `talcfeather::walk::talc_walk` meets its contract: number and answer are those of `fields::walk`.
 use mathlib.Core.Path.{ap, _∙_}
 use Rattle.fields.specs.Walk.{walkNumber}
-use Rattle.talcfeather.specs.Numbers.{stored}
+use Rattle.talcfeather.specs.Numbers.{inBytes}
 use Rattle.talcfeather.specs.Walk.{walkNumbers}
 use borrow.Author.Needs.{needs}
 use Rattle.talcfeather.proofs.walk.talc_walk.Statement.{statement}
@@ -12,7 +12,7 @@ returns c =
     let said = c .before .before .before .before .before .walk .ensures in
     record {
       is-number = c .walk-number .ensures ∙ ap walkNumber said;
-      is-answer = c .before .store .ensures ∙ ap stored (c .before .before .before .before .walk-numbers .ensures ∙ ap walkNumbers said);
+      is-answer = c .before .store .ensures ∙ ap inBytes (c .before .before .before .before .walk-numbers .ensures ∙ ap walkNumbers said);
     }
 
 pub talc-walk-spec : {M : Type 1} → statement M
