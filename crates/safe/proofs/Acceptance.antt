@@ -2,15 +2,19 @@
 use Prim.Native.Nat.{ℕ, _+_, _-_}
 use mathlib.Core.Path.{_≡_, refl, sym, ap, _∙_}
 use mathlib.Core.Logic.{_↔_}
+use mathlib.Core.Bool.{Bool, true, false}
 use mathlib.Core.List.{List, _++_}
 use native.Mathlib.Omega.{arith}
+use lib.Dec.{eqb}
 use lib.ListN.{length}
+use borrow.Author.Tests.{eqb-true, eqb-false}
 use Rattle.words.specs.Numbers.{numberLow}
 use Rattle.words.specs.Slices.{zeros}
 use Rattle.words.proofs.ByteLaws.{append-inj}
 use Rattle.file.specs.Layout.{split}
-use Rattle.file.specs.Reading.{Report, workspaceOf, readingOf, Answers}
+use Rattle.file.specs.Reading.{Report, refused, workspaceOf, readingOf, Answers}
 use Rattle.file.proofs.Accepted.{Read, file-long, read-safe}
+use Rattle.file.proofs.Ends as Ends
 use Rattle.safe.specs.V3.{v3}
 use Rattle.safe.specs.declared.Reading.{Reading}
 use Rattle.safe.proofs.V3Laws.{v3-laws}
@@ -53,3 +57,16 @@ module _ {file passphrase before after : List ℕ} {ceiling : ℕ} {r : Reading}
       workspace = c .reports .memory ∙ ap (λ (b : List ℕ). b ++ zeros (length before - length b)) (a .givesBody);
     },
   )
+
+  -- the keys of an answer have 32 bytes: those of a safe, or zeros
+  pub keys-long : (length (r .k) ≡ 32) × (length (r .l) ≡ 32)
+  unfolding refused
+  keys-long = go (eqb (report .number) 0) refl
+    where
+      go : (b : Bool) → eqb (report .number) 0 ≡ b → (length (r .k) ≡ 32) × (length (r .l) ≡ 32)
+      go true e =
+          let s = is-read (number-is (c .reports) ∙ eqb-true (report .number) 0 e) .is-safe in
+          (ap length (k-is (c .reports)) ∙ s .K-sized .long, ap length (l-is (c .reports)) ∙ s .L-sized .long)
+      go false e =
+          let d = Ends.bare v3 file passphrase ceiling (length before) (eqb-false (report .number) 0 e) in
+          (ap length (k-is (c .reports) ∙ ap (λ (t : Report). t .keyK) d), ap length (l-is (c .reports) ∙ ap (λ (t : Report). t .keyL) d))

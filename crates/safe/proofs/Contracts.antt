@@ -1,6 +1,6 @@
 -- What a contract leaves open: nothing. The number and the values of an answer tell the answer, by its cases; so two calls with one report have one answer.
 use Prim.Native.Nat.{ℕ}
-use mathlib.Core.Path.{_≡_, refl, sym, ap, ap₂, _∙_}
+use mathlib.Core.Path.{_≡_, refl, sym, ap, ap₂, _∙_, subst}
 use mathlib.Core.Bool.{cond}
 use mathlib.Core.List.{List}
 use lib.Dec.{eqb}
@@ -59,11 +59,16 @@ reading-said : (r : Reading) (body : List ℕ) → readingBy (reported r body) �
 unfolding reported
 reading-said r body = λ i. record { outcome = outcome-said (r .outcome) i; k = r .k; l = r .l; compressions = r .compressions; blocks = r .blocks }
 
+-- two answers of one report
+pub same-reading : {report : Report} {before before′ after after′ : List ℕ} {r r′ : Reading} → Reports report before after r → Reports report before′ after′ r′ → r ≡ r′
+same-reading {report} {r = r} {r′ = r′} c c′ =
+    sym (reading-said r (report .body)) ∙ ap readingBy (c .answer ∙ sym (c′ .answer)) ∙ reading-said r′ (report .body)
+
 -- two calls whose reports and whose workspaces' lengths are equal
 pub one-report : {report report′ : Report} {before before′ after after′ : List ℕ} {r r′ : Reading} → Reports report before after r → Reports report′ before′ after′ r′
     → report ≡ report′ → length before ≡ length before′ → (r ≡ r′) × (after ≡ after′)
-one-report {report} {report′} {r = r} {r′ = r′} c c′ e l = (
-  sym (reading-said r (report .body)) ∙ ap readingBy (c .answer ∙ e ∙ sym (c′ .answer)) ∙ reading-said r′ (report′ .body),
+one-report {before′ = before′} {after′ = after′} {r′ = r′} c c′ e l = (
+  same-reading c (subst (λ (t : Report). Reports t before′ after′ r′) (sym e) c′),
   c .memory ∙ ap₂ workspaceOf l e ∙ sym (c′ .memory),
 )
 

@@ -31,7 +31,7 @@ use Rattle.file.proofs.Nine.{nine}
 use Rattle.file.proofs.Prefix.{no-prefix}
 use Rattle.safe.specs.V3.{v3, stretchedV3}
 use Rattle.safe.specs.Answers.{headerCount, recordCount, writtenNumber, reported}
-use Rattle.safe.specs.Steps.{Decrypts, Settles, Settled}
+use Rattle.safe.specs.Steps.{Decrypts, Settles}
 use Rattle.safe.specs.declared.decrypt.Keys.{Keys}
 use Rattle.safe.specs.declared.Reading.{Reading}
 use Rattle.safe.specs.declared.Written.{Written}
@@ -39,7 +39,7 @@ use Rattle.safe.proofs.V3Laws.{v3-laws}
 use Rattle.safe.specs.Calls.{saltIn, iterIn, ivIn, encryptedIn, macIn, blocksIn, stretchedIn, keyKIn, keyLIn, lastState, Matching, numberOf, OneToFour, OneToSeven, Reads, Accepts, Writes}
 use Rattle.safe.proofs.Contracts.{one-report, number-is, k-is, l-is, headers-are, records-are, written-told}
 use Rattle.safe.proofs.Acceptance.{is-read, accepts-exactly}
-use Rattle.safe.proofs.Settled.{settled-call, state-held}
+use Rattle.safe.proofs.Settled.{same-answer, state-held}
 use Rattle.safe.proofs.Stretching.{matching}
 use Rattle.safe.proofs.Instances.{thirteen, instances, below-floor}
 
@@ -277,19 +277,21 @@ module _ {file passphrase before after : List ℕ} {ceiling : ℕ} {r : Reading}
       (λ past checked. Ends.blocks-held v3 file passphrase ceiling room (late past) checked
       ∙ count-opened v3 v3-laws (split file) (v3 .stretched passphrase (saltIn file) (iterIn file) .key) (blocksIn file))
 
-  -- Unless the reading ends in 1 to 8, it is a decryption that is settled: what `decrypt` hands on is all that the answer and the workspace are made of.
-  pub counts-settled : (OneToSeven (numberOf r) → ⊥) → (numberOf r ≡ 8 → ⊥) → Settled file passphrase before after r
-  counts-settled past checked = settled-call c (late past) checked
-
-  -- The report is the count that the last step hands on, and the state it belongs to, before any zeroing, is the whole body decrypted: of whatever meets the
-  -- contract of `decrypt`, and of whatever meets that of `settle` after it.
-  pub counts-state : {memory after′ : List ℕ} {keys : Keys} (compressions : ℕ) {r′ : Reading} → Decrypts file (stretchedIn passphrase file) memory keys
-      → Settles keys (macIn file) compressions memory after′ r′
-      → (r′ .blocks ≡ keys .count)
-      × (keys .count ≡ 4 + blocksIn file)
-      × (memory ≡ decipher (cbcD twofishCipher (keyKIn passphrase file)) (blocksIn file) (ivIn file) (encryptedIn file))
+  -- The report is the count that the last step hands on, and nothing else sets it or adds to it; unless the reading ends in 1 to 8, the state it belongs to, before any
+  -- zeroing, is the whole body decrypted: whatever meets the contract of `decrypt` hands on a memory, keys and a count, and whatever meets that of `settle` makes of them
+  -- the answer of the call, and the front of its workspace.
+  pub counts-state : (OneToSeven (numberOf r) → ⊥) → (numberOf r ≡ 8 → ⊥) → {memory left : List ℕ} {keys : Keys} {r′ : Reading}
+      → Decrypts file (stretchedIn passphrase file) memory keys → Settles keys (macIn file) (r .compressions) memory left r′
+      → (memory ≡ decipher (cbcD twofishCipher (keyKIn passphrase file)) (blocksIn file) (ivIn file) (encryptedIn file))
       × (length memory ≡ length file - 200)
-  counts-state compressions d s = state-held file passphrase compressions d s
+      × (keys .count ≡ 4 + blocksIn file)
+      × (r .blocks ≡ keys .count)
+      × (r ≡ r′)
+      × (after ≡ left ++ zeros (length before - length memory))
+  counts-state past checked d e =
+      let s = same-answer c (late past) checked d e in
+      let h = state-held c (late past) checked d e in
+      (h .2, h .3, h .1, ap (λ (x : Reading). x .blocks) (s .0) ∙ h .0, s .0, s .1)
 
   -- ==== CEILINGS. Ceiling 2,047: no file passes; ceiling equal to ITER: passes.
   pub ceiling-below : ceiling < 2048 → numberOf r ≡ 0 → ⊥

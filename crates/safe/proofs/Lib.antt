@@ -7,7 +7,7 @@ mod Laying
 mod Writes
 mod Contracts
 pub mod Told
-mod Acceptance
+pub mod Acceptance
 mod Stretching
 mod Settled
 pub mod Instances

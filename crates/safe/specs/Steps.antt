@@ -2,7 +2,7 @@
 use Prim.Native.Nat.{ℕ, _+_, _-_, _*_, _≤_, _<_, _^_}
 use mathlib.Core.Path.{_≡_}
 use mathlib.Core.Bool.{cond}
-use mathlib.Core.List.{List, _++_}
+use mathlib.Core.List.{List}
 use lib.ListN.{length, take, drop}
 use Rattle.words.specs.Numbers.{Bytes}
 use Rattle.words.specs.Slices.{zeros, same}
@@ -16,7 +16,7 @@ use Rattle.file.specs.Refusals.{deciding}
 use Rattle.file.specs.Reading.{Report, earlyTests, keysOpened, keyK, keyL, bodyOf, settled, checked}
 use Rattle.file.specs.Writing.{earlyWriteTests}
 use Rattle.safe.specs.V3.{v3, stretchedV3}
-use Rattle.safe.specs.Calls.{saltIn, iterIn, macIn, blocksIn, stretchedIn, Reports}
+use Rattle.safe.specs.Calls.{saltIn, iterIn, blocksIn, Reports}
 use Rattle.safe.specs.declared.Reading.{Reading}
 use Rattle.safe.specs.declared.decrypt.Keys.{Keys}
 
@@ -75,12 +75,3 @@ settledUnder file P′ compressions =
 
 abbrev pub openedBy : (passphrase file : List ℕ) → Report
 openedBy passphrase file = checked v3 (split file) (stretchedV3 passphrase (saltIn file) (iterIn file)) (blocksIn file)
-
--- a reading that is decrypted and then settled, in the front of a workspace with zeros behind it
-pub record Settled (file passphrase before after : List ℕ) (r : Reading) : Type 0 where
-  pub memory : List ℕ
-  pub keys : Keys
-  pub left : List ℕ
-  pub decrypts : Decrypts file (stretchedIn passphrase file) memory keys
-  pub settles : Settles keys (macIn file) (r .compressions) memory left r
-  pub workspace : after ≡ left ++ zeros (length before - length memory)

@@ -3,3 +3,4 @@ mod Values
 mod Keys
 pub mod OneAnswer
 pub mod AsRead
+pub mod Demands

@@ -12,6 +12,10 @@ use Rattle.words.specs.Numbers.{numberLow}
 use Rattle.fields.specs.Value.{valueOf, recordShape, valueNumbers}
 use Rattle.fields.specs.declared.value.Value.{Value}
 use Rattle.fields.specs.declared.value.Value.the-variants as Value
+use Rattle.fields.specs.declared.Cursor.{Cursor}
+use Rattle.fields.specs.declared.Field.{Field}
+use Rattle.fields.specs.declared.Walked.the-variants.{Took}
+use Rattle.talcfeather.specs.Walk.{fieldNumbers, walkNumbers}
 use Rattle.fields.proofs.value.Value as value
 
 pub three-numbers : (v : Value) → getD (valueNumbers v) 0 0 ∷ getD (valueNumbers v) 1 0 ∷ getD (valueNumbers v) 2 0 ∷ [] ≡ valueNumbers v
@@ -25,6 +29,10 @@ three-numbers Value.Text = refl
 three-numbers Value.BadText = refl
 three-numbers Value.Misshapen = refl
 three-numbers Value.Opaque = refl
+
+-- so a field has nine, which leave no room for zeros
+pub nine-numbers : (f : Field) (d : Cursor) → fieldNumbers f d ≡ walkNumbers (Took f d)
+nine-numbers f d = rw (← (three-numbers (f .value)))
 
 pub uuid-value : (u : List ℕ) → length u ≡ 16 → valueOf true 0x01 u ≡ Value.Uuid (numberLow (take 8 u)) (numberLow (take 8 (drop 8 u)))
 unfolding valueOf recordShape

@@ -16,9 +16,10 @@ returns c =
     let r = c .before .before .before .before .before .before .before .before .before .before .before .read .result in
     let said = c .before .before .before .before .before .before .before .before .before .before .before .read .ensures in
     record {
-      is-number = c .outcome-number .ensures ∙ ap (λ (x : Report). x .number) (said .answer);
-      is-workspace = said .memory;
-      is-answer = c .before .lay .ensures ∙ ap (λ (l : List ℕ). r .k ++ (r .l ++ inBytes l)) (c .before .before .before .before .before .before .read-numbers .ensures) ∙ ap answerBytes (said .answer);
+      bytes = said .bytes;
+      is-number = c .outcome-number .ensures ∙ ap (λ (x : Report). x .number) (said .reports .answer);
+      is-workspace = said .reports .memory;
+      is-answer = c .before .lay .ensures ∙ ap (λ (l : List ℕ). r .k ++ (r .l ++ inBytes l)) (c .before .before .before .before .before .before .read-numbers .ensures) ∙ ap answerBytes (said .reports .answer);
     }
 
 pub talc-read-spec : {M : Type 1} → statement M
