@@ -43,57 +43,57 @@ is-length n a b c = rw (le-ltb n 232 a, le-ltb 4194304 n b, eq-eqb ((n - 200) % 
 
 module _ (E : Edition) (X : Laws E) where
   -- what was deciphered
-  pub keys-done : (k c : List ℕ) → keysOpened E k c .done ≡ decipher (ecbD (E .cipher) k) 4 (zeros 16) c
+  pub keys-done : (k c : List ℕ) → keysOpened (E .format) k c .done ≡ decipher (ecbD (E .format .cipher) k) 4 (zeros 16) c
   unfolding keysOpened
-  keys-done k c = opened-done (ecbD (E .cipher) k) 4 (zeros 16) c 0
+  keys-done k c = opened-done (ecbD (E .format .cipher) k) 4 (zeros 16) c 0
 
-  pub body-done : (k iv : List ℕ) (n : ℕ) (c : List ℕ) (m : ℕ) → bodyOpened E k iv n c m .done ≡ decipher (cbcD (E .cipher) k) n iv c
+  pub body-done : (k iv : List ℕ) (n : ℕ) (c : List ℕ) (m : ℕ) → bodyOpened (E .format) k iv n c m .done ≡ decipher (cbcD (E .format .cipher) k) n iv c
   unfolding bodyOpened
-  body-done k iv n c m = opened-done (cbcD (E .cipher) k) n iv c m
+  body-done k iv n c m = opened-done (cbcD (E .format .cipher) k) n iv c m
 
   -- the keys: deciphered and enciphered again, and the other way round
   module _ (k : List ℕ) (hk : Sized 32 k) where
     abbrev ecb : List ℕ → List ℕ → List ℕ
-    ecb = ecbE (E .cipher) k
+    ecb = ecbE (E .format .cipher) k
 
     abbrev unecb : List ℕ → List ℕ → List ℕ
-    unecb = ecbD (E .cipher) k
+    unecb = ecbD (E .format .cipher) k
 
-    pub keys-sized : (c : List ℕ) → Sized 64 c → Sized 64 (keysOpened E k c .done)
-    keys-sized c h = rw (keys-done k c) (decipher-sized ecb unecb (ecb-laws (E .cipher) (X .ciphers) k hk) 4 (zeros 16) c (sized-zeros 16) h)
+    pub keys-sized : (c : List ℕ) → Sized 64 c → Sized 64 (keysOpened (E .format) k c .done)
+    keys-sized c h = rw (keys-done k c) (decipher-sized ecb unecb (ecb-laws (E .format .cipher) (X .ciphers) k hk) 4 (zeros 16) c (sized-zeros 16) h)
 
-    keys-again : (c : List ℕ) → Sized 64 c → encipher ecb 4 (zeros 16) (keysOpened E k c .done) ≡ c
-    keys-again c h = rw (keys-done k c) (encipher-decipher ecb unecb (ecb-laws (E .cipher) (X .ciphers) k hk) 4 (zeros 16) c (sized-zeros 16) h)
+    keys-again : (c : List ℕ) → Sized 64 c → encipher ecb 4 (zeros 16) (keysOpened (E .format) k c .done) ≡ c
+    keys-again c h = rw (keys-done k c) (encipher-decipher ecb unecb (ecb-laws (E .format .cipher) (X .ciphers) k hk) 4 (zeros 16) c (sized-zeros 16) h)
 
-    keys-back : (l : List ℕ) → Sized 64 l → keysOpened E k (encipher ecb 4 (zeros 16) l) .done ≡ l
+    keys-back : (l : List ℕ) → Sized 64 l → keysOpened (E .format) k (encipher ecb 4 (zeros 16) l) .done ≡ l
     keys-back l h =
-        rw (keys-done k (encipher ecb 4 (zeros 16) l)) (decipher-encipher ecb unecb (ecb-laws (E .cipher) (X .ciphers) k hk) 4 (zeros 16) l (sized-zeros 16) h)
+        rw (keys-done k (encipher ecb 4 (zeros 16) l)) (decipher-encipher ecb unecb (ecb-laws (E .format .cipher) (X .ciphers) k hk) 4 (zeros 16) l (sized-zeros 16) h)
 
     -- the same of the body
     module _ (iv : List ℕ) (hi : Sized 16 iv) (m : ℕ) where
       abbrev chained : List ℕ → List ℕ → List ℕ
-      chained = cbcE (E .cipher) k
+      chained = cbcE (E .format .cipher) k
 
       abbrev unchained : List ℕ → List ℕ → List ℕ
-      unchained = cbcD (E .cipher) k
+      unchained = cbcD (E .format .cipher) k
 
-      pub body-sized : (n : ℕ) (c : List ℕ) → Sized (16 * n) c → Sized (16 * n) (bodyOpened E k iv n c m .done)
-      body-sized n c h = rw (body-done k iv n c m) (decipher-sized chained unchained (cbc-laws (E .cipher) (X .ciphers) k hk) n iv c hi h)
+      pub body-sized : (n : ℕ) (c : List ℕ) → Sized (16 * n) c → Sized (16 * n) (bodyOpened (E .format) k iv n c m .done)
+      body-sized n c h = rw (body-done k iv n c m) (decipher-sized chained unchained (cbc-laws (E .format .cipher) (X .ciphers) k hk) n iv c hi h)
 
-      body-again : (n : ℕ) (c : List ℕ) → Sized (16 * n) c → cbc E k iv (bodyOpened E k iv n c m .done) ≡ c
+      body-again : (n : ℕ) (c : List ℕ) → Sized (16 * n) c → cbc (E .format) k iv (bodyOpened (E .format) k iv n c m .done) ≡ c
       unfolding cbc
       body-again n c h =
-          let b : length (bodyOpened E k iv n c m .done) / 16 ≡ n = omega (arith, body-sized n c h .long) in
-          rw (b, body-done k iv n c m) (encipher-decipher chained unchained (cbc-laws (E .cipher) (X .ciphers) k hk) n iv c hi h)
+          let b : length (bodyOpened (E .format) k iv n c m .done) / 16 ≡ n = omega (arith, body-sized n c h .long) in
+          rw (b, body-done k iv n c m) (encipher-decipher chained unchained (cbc-laws (E .format .cipher) (X .ciphers) k hk) n iv c hi h)
 
-      body-back : (n : ℕ) (l : List ℕ) → length l / 16 ≡ n → Sized (16 * n) l → bodyOpened E k iv n (cbc E k iv l) m .done ≡ l
+      body-back : (n : ℕ) (l : List ℕ) → length l / 16 ≡ n → Sized (16 * n) l → bodyOpened (E .format) k iv n (cbc (E .format) k iv l) m .done ≡ l
       unfolding cbc
       body-back n l e h =
-          rw (e, body-done k iv n (encipher chained n iv l) m) (decipher-encipher chained unchained (cbc-laws (E .cipher) (X .ciphers) k hk) n iv l hi h)
+          rw (e, body-done k iv n (encipher chained n iv l) m) (decipher-encipher chained unchained (cbc-laws (E .format .cipher) (X .ciphers) k hk) n iv l hi h)
 
-      pub cbc-sized : (n : ℕ) (l : List ℕ) → length l / 16 ≡ n → Sized (16 * n) l → Sized (16 * n) (cbc E k iv l)
+      pub cbc-sized : (n : ℕ) (l : List ℕ) → length l / 16 ≡ n → Sized (16 * n) l → Sized (16 * n) (cbc (E .format) k iv l)
       unfolding cbc
-      cbc-sized n l e h = rw e (encipher-sized chained unchained (cbc-laws (E .cipher) (X .ciphers) k hk) n iv l hi h)
+      cbc-sized n l e h = rw e (encipher-sized chained unchained (cbc-laws (E .format .cipher) (X .ciphers) k hk) n iv l hi h)
 
   -- accepted: a safe
   module _ (file pass : List ℕ) (ceiling room : ℕ) (fb : Bytes file) where
@@ -104,19 +104,19 @@ module _ (E : Edition) (X : Laws E) where
     n = (length file - 200) / 16
 
     abbrev s : Stretched
-    s = E .stretched pass (p .salt) (numberLow (p .iter))
+    s = E .format .stretched pass (p .salt) (numberLow (p .iter))
 
     -- the parts are those of the safe
     parts-are : p .tag ≡ tag → p .iter ≡ bytesLow 4 (numberLow (p .iter)) → p .check ≡ s .check
-        → p .keys ≡ wrapped E (s .key) (keyK E p (s .key)) (keyL E p (s .key))
-        → p .encrypted ≡ cbc E (keyK E p (s .key)) (p .iv) (bodyOf E p (s .key) n .done)
-        → p .marker ≡ marker → p .mac ≡ E .hmac (keyL E p (s .key)) (E .covered (bodyOf E p (s .key) n .done))
-        → p ≡ partsOf E pass (p .salt) (numberLow (p .iter)) (keyK E p (s .key)) (keyL E p (s .key)) (p .iv) (bodyOf E p (s .key) n .done) (E .covered (bodyOf E p (s .key) n .done))
+        → p .keys ≡ wrapped (E .format) (s .key) (keyK (E .format) p (s .key)) (keyL (E .format) p (s .key))
+        → p .encrypted ≡ cbc (E .format) (keyK (E .format) p (s .key)) (p .iv) (bodyOf (E .format) p (s .key) n .done)
+        → p .marker ≡ marker → p .mac ≡ E .format .hmac (keyL (E .format) p (s .key)) (E .covered (bodyOf (E .format) p (s .key) n .done))
+        → p ≡ partsOf (E .format) pass (p .salt) (numberLow (p .iter)) (keyK (E .format) p (s .key)) (keyL (E .format) p (s .key)) (p .iv) (bodyOf (E .format) p (s .key) n .done) (E .covered (bodyOf (E .format) p (s .key) n .done))
     unfolding partsOf
     parts-are a b c d e f g = λ i. record { tag = a i; salt = p .salt; iter = b i; check = c i; keys = d i; iv = p .iv; encrypted = e i; marker = f i; mac = g i }
 
     pub safe : Early E p n file pass ceiling room → Matches p s → Whole E p s n
-        → IsSafe E pass file (p .salt) (numberLow (p .iter)) (keyK E p (s .key)) (keyL E p (s .key)) (p .iv) (bodyOf E p (s .key) n .done)
+        → IsSafe (E .format) pass file (p .salt) (numberLow (p .iter)) (keyK (E .format) p (s .key)) (keyL (E .format) p (s .key)) (p .iv) (bodyOf (E .format) p (s .key) n .done)
     unfolding fileOf wrapped
     safe e m w =
         let g = good-length (length file) (e .t1) in
@@ -128,18 +128,18 @@ module _ (E : Edition) (X : Laws E) where
         let hkeys : Sized 64 (p .keys) = record { long = l .keys-long; bytes = b .keys-bytes } in
         let hc : Sized (16 * n) (p .encrypted) = record { long = l .encrypted-long ∙ whole; bytes = b .encrypted-bytes } in
         let hk = keys-sized (s .key) hs (p .keys) hkeys in
-        let hK : Sized 32 (keyK E p (s .key)) = sized-take 32 64 (keysOpened E (s .key) (p .keys) .done) (lit≤ tt) hk in
-        let hL : Sized 32 (keyL E p (s .key)) = sized-drop 32 64 32 (keysOpened E (s .key) (p .keys) .done) refl hk in
-        let count = keysOpened E (s .key) (p .keys) .count in
-        let hb : Sized (16 * n) (bodyOf E p (s .key) n .done) = body-sized (keyK E p (s .key)) hK (p .iv) hiv count n (p .encrypted) hc in
-        let blocks : length (bodyOf E p (s .key) n .done) / 16 ≡ n = omega (arith, hb .long) in
-        let ec : cbc E (keyK E p (s .key)) (p .iv) (bodyOf E p (s .key) n .done) ≡ p .encrypted = body-again (keyK E p (s .key)) hK (p .iv) hiv count n (p .encrypted) hc in
+        let hK : Sized 32 (keyK (E .format) p (s .key)) = sized-take 32 64 (keysOpened (E .format) (s .key) (p .keys) .done) (lit≤ tt) hk in
+        let hL : Sized 32 (keyL (E .format) p (s .key)) = sized-drop 32 64 32 (keysOpened (E .format) (s .key) (p .keys) .done) refl hk in
+        let count = keysOpened (E .format) (s .key) (p .keys) .count in
+        let hb : Sized (16 * n) (bodyOf (E .format) p (s .key) n .done) = body-sized (keyK (E .format) p (s .key)) hK (p .iv) hiv count n (p .encrypted) hc in
+        let blocks : length (bodyOf (E .format) p (s .key) n .done) / 16 ≡ n = omega (arith, hb .long) in
+        let ec : cbc (E .format) (keyK (E .format) p (s .key)) (p .iv) (bodyOf (E .format) p (s .key) n .done) ≡ p .encrypted = body-again (keyK (E .format) p (s .key)) hK (p .iv) hiv count n (p .encrypted) hc in
         let first : firstMarker (n + 3) (drop 152 file) ≡ n = eqb-true (firstMarker (n + 3) (drop 152 file)) n (not-false (eqb (firstMarker (n + 3) (drop 152 file)) n) (e .t7)) in
         let mk = marker-found n (n + 3) (p .encrypted) (p .marker) (p .mac) refl (hc .long) (l .marker-long) (rw (tail-split file (omega arith)) at first) in
         record {
           passphrase-fits = ltb-false 1024 (length pass) (e .t2);
           salt-sized = record { long = l .salt-long; bytes = b .salt-bytes };
-          iter-floor = ltb-false (numberLow (p .iter)) (E .floor) (e .t5);
+          iter-floor = ltb-false (numberLow (p .iter)) (E .format .floor) (e .t5);
           iter-fits = iter-small (p .iter) (b .iter-bytes) (l .iter-long);
           K-sized = hK;
           L-sized = hL;
@@ -148,23 +148,23 @@ module _ (E : Edition) (X : Laws E) where
           body-least = omega (arith, hb .long);
           body-most = omega (arith, hb .long);
           body-whole = omega (arith, hb .long);
-          covered = E .covered (bodyOf E p (s .key) n .done);
-          well-formed = X .describes (bodyOf E p (s .key) n .done) (hb .bytes) (not-false (E .wellFormed (bodyOf E p (s .key) n .done)) (w .fine));
-          no-marker = clear-each (length (bodyOf E p (s .key) n .done) / 16) (cbc E (keyK E p (s .key)) (p .iv) (bodyOf E p (s .key) n .done)) (rw (blocks, ec) (mk .0));
+          covered = E .covered (bodyOf (E .format) p (s .key) n .done);
+          well-formed = X .describes (bodyOf (E .format) p (s .key) n .done) (hb .bytes) (not-false (E .wellFormed (bodyOf (E .format) p (s .key) n .done)) (w .fine));
+          no-marker = clear-each (length (bodyOf (E .format) p (s .key) n .done) / 16) (cbc (E .format) (keyK (E .format) p (s .key)) (p .iv) (bodyOf (E .format) p (s .key) n .done)) (rw (blocks, ec) (mk .0));
           is-file = sym (join-split file (omega arith)) ∙ ap join (parts-are
               (same-of (p .tag) tag (e .t4)) (sym (iter-again (p .iter) (b .iter-bytes) (l .iter-long)))
               (sym (same-of (s .check) (p .check) (m .t8)))
-              (sym (rw (take-append-drop 32 (keysOpened E (s .key) (p .keys) .done)) (keys-again (s .key) hs (p .keys) hkeys)))
-              (sym ec) (mk .1) (sym (same-of (E .hmac (keyL E p (s .key)) (E .covered (bodyOf E p (s .key) n .done))) (p .mac) (w .mac))));
+              (sym (rw (take-append-drop 32 (keysOpened (E .format) (s .key) (p .keys) .done)) (keys-again (s .key) hs (p .keys) hkeys)))
+              (sym ec) (mk .1) (sym (same-of (E .format .hmac (keyL (E .format) p (s .key)) (E .covered (bodyOf (E .format) p (s .key) n .done))) (p .mac) (w .mac))));
         }
 
   -- a safe: accepted
-  module _ (pass file salt : List ℕ) (iter : ℕ) (K L iv body : List ℕ) (z : IsSafe E pass file salt iter K L iv body) where
+  module _ (pass file salt : List ℕ) (iter : ℕ) (K L iv body : List ℕ) (z : IsSafe (E .format) pass file salt iter K L iv body) where
     abbrev q : Parts
-    q = partsOf E pass salt iter K L iv body (z .covered)
+    q = partsOf (E .format) pass salt iter K L iv body (z .covered)
 
     abbrev key : Stretched
-    key = E .stretched pass salt iter
+    key = E .format .stretched pass salt iter
 
     abbrev k : ℕ
     k = length body / 16
@@ -179,7 +179,7 @@ module _ (E : Edition) (X : Laws E) where
       salt-long = z .salt-sized .long;
       iter-long = bytes-sized 4 iter .long;
       check-long = X .check-sized pass salt iter .long;
-      keys-long = encipher-sized (ecbE (E .cipher) (key .key)) (ecbD (E .cipher) (key .key)) (ecb-laws (E .cipher) (X .ciphers) (key .key) (X .key-sized pass salt iter)) 4 (zeros 16) (K ++ L)
+      keys-long = encipher-sized (ecbE (E .format .cipher) (key .key)) (ecbD (E .format .cipher) (key .key)) (ecb-laws (E .format .cipher) (X .ciphers) (key .key) (X .key-sized pass salt iter)) 4 (zeros 16) (K ++ L)
           (sized-zeros 16) (sized-append 32 32 K L (z .K-sized) (z .L-sized)) .long;
       iv-long = z .iv-sized .long;
       encrypted-long = cbc-sized K (z .K-sized) iv (z .iv-sized) 0 k body refl body-is .long ∙ sym (body-is .long);
@@ -207,7 +207,7 @@ module _ (E : Edition) (X : Laws E) where
     blocks-are : (length file - 200) / 16 ≡ k
     blocks-are = rw file-long (omega arith)
 
-    pub tail-is : drop 152 file ≡ cbc E K iv body ++ (marker ++ E .hmac L (z .covered))
+    pub tail-is : drop 152 file ≡ cbc (E .format) K iv body ++ (marker ++ E .format .hmac L (z .covered))
     unfolding partsOf
     tail-is = tail-split file (omega (arith, file-long)) ∙ ap (λ (p : Parts). p .encrypted ++ (p .marker ++ p .mac)) split-is
 
@@ -222,33 +222,33 @@ module _ (E : Edition) (X : Laws E) where
           t2 = le-ltb 1024 (length pass) (z .passphrase-fits);
           t3 = le-ltb room (length file - 200) (omega arith);
           t4 = same-is tag tag refl;
-          t5 = rw iter-is (le-ltb iter (E .floor) (z .iter-floor));
+          t5 = rw iter-is (le-ltb iter (E .format .floor) (z .iter-floor));
           t6 = rw iter-is (le-ltb ceiling iter hc);
-          t7 = ap not (eq-eqb (firstMarker (k + 3) (drop 152 file)) k (rw tail-is (marker-first k (k + 3) (cbc E K iv body) (E .hmac L (z .covered)) refl (cs .long) (each-clear k (cbc E K iv body) (z .no-marker)))));
+          t7 = ap not (eq-eqb (firstMarker (k + 3) (drop 152 file)) k (rw tail-is (marker-first k (k + 3) (cbc (E .format) K iv body) (E .format .hmac L (z .covered)) refl (cs .long) (each-clear k (cbc (E .format) K iv body) (z .no-marker)))));
         }
 
     reading-is : (ceiling room : ℕ) → iter ≤ ceiling → length body ≤ room → readingOf E file pass ceiling room ≡ checked E q key k
     unfolding partsOf
     reading-is ceiling room hc hr =
         passed-early E file pass ceiling room (rw (split-is, blocks-are) (q-early ceiling room hc hr))
-        ∙ ap₂ (λ (p : Parts) (n : ℕ). checked E p (E .stretched pass (p .salt) (numberLow (p .iter))) n) split-is blocks-are
-        ∙ ap (λ (i : ℕ). checked E q (E .stretched pass salt i) k) iter-is
+        ∙ ap₂ (λ (p : Parts) (n : ℕ). checked E p (E .format .stretched pass (p .salt) (numberLow (p .iter))) n) split-is blocks-are
+        ∙ ap (λ (i : ℕ). checked E q (E .format .stretched pass salt i) k) iter-is
 
-    keys-are : keysOpened E (key .key) (q .keys) .done ≡ K ++ L
+    keys-are : keysOpened (E .format) (key .key) (q .keys) .done ≡ K ++ L
     unfolding partsOf wrapped
     keys-are = keys-back (key .key) (X .key-sized pass salt iter) (K ++ L) (sized-append 32 32 K L (z .K-sized) (z .L-sized))
 
-    K-is : keyK E q (key .key) ≡ K
+    K-is : keyK (E .format) q (key .key) ≡ K
     K-is = ap (take 32) keys-are ∙ take-at K L 32 (z .K-sized .long)
 
-    L-is : keyL E q (key .key) ≡ L
+    L-is : keyL (E .format) q (key .key) ≡ L
     L-is = ap (drop 32) keys-are ∙ drop-at K L 32 (z .K-sized .long)
 
-    done-is : bodyOf E q (key .key) k .done ≡ body
+    done-is : bodyOf (E .format) q (key .key) k .done ≡ body
     unfolding partsOf
     done-is =
-        ap (λ (x : List ℕ). bodyOpened E x iv k (cbc E K iv body) (keysOpened E (key .key) (q .keys) .count) .done) K-is
-        ∙ body-back K (z .K-sized) iv (z .iv-sized) (keysOpened E (key .key) (q .keys) .count) k body refl body-is
+        ap (λ (x : List ℕ). bodyOpened (E .format) x iv k (cbc (E .format) K iv body) (keysOpened (E .format) (key .key) (q .keys) .count) .done) K-is
+        ∙ body-back K (z .K-sized) iv (z .iv-sized) (keysOpened (E .format) (key .key) (q .keys) .count) k body refl body-is
 
     q-matches : Matches q key
     unfolding partsOf
@@ -258,12 +258,12 @@ module _ (E : Edition) (X : Laws E) where
     unfolding partsOf
     q-whole = record {
       fine = ap not (ap (E .wellFormed) done-is ∙ X .decides body (z .covered) (z .well-formed) .0);
-      mac = same-is (E .hmac (keyL E q (key .key)) (E .covered (bodyOf E q (key .key) k .done))) (E .hmac L (z .covered))
-          (ap₂ (λ (l b : List ℕ). E .hmac l (E .covered b)) L-is done-is ∙ ap (E .hmac L) (X .decides body (z .covered) (z .well-formed) .1));
+      mac = same-is (E .format .hmac (keyL (E .format) q (key .key)) (E .covered (bodyOf (E .format) q (key .key) k .done))) (E .format .hmac L (z .covered))
+          (ap₂ (λ (l b : List ℕ). E .format .hmac l (E .covered b)) L-is done-is ∙ ap (E .format .hmac L) (X .decides body (z .covered) (z .well-formed) .1));
     }
 
     pub safe-accepted : (ceiling room : ℕ) → iter ≤ ceiling → length body ≤ room
-        → readingOf E file pass ceiling room ≡ accepted E (keyK E q (key .key)) (keyL E q (key .key)) (key .count) (bodyOf E q (key .key) k .count) (bodyOf E q (key .key) k .done)
+        → readingOf E file pass ceiling room ≡ accepted E (keyK (E .format) q (key .key)) (keyL (E .format) q (key .key)) (key .count) (bodyOf (E .format) q (key .key) k .count) (bodyOf (E .format) q (key .key) k .done)
     safe-accepted ceiling room hc hr = reading-is ceiling room hc hr ∙ is-accepted E q key k q-matches q-whole
 
     pub safe-read : (ceiling room : ℕ) → iter ≤ ceiling → length body ≤ room
@@ -281,11 +281,11 @@ module _ (E : Edition) (X : Laws E) where
   -- DEMAND 2
   module _ (file pass : List ℕ) (ceiling room : ℕ) (fb : Bytes file) (K L body : List ℕ) where
     abbrev pub ASafe : Type 0
-    ASafe = (salt : List ℕ) × (iter : ℕ) × (iv : List ℕ) × IsSafe E pass file salt iter K L iv body × (iter ≤ ceiling) × (length body ≤ room)
+    ASafe = (salt : List ℕ) × (iter : ℕ) × (iv : List ℕ) × IsSafe (E .format) pass file salt iter K L iv body × (iter ≤ ceiling) × (length body ≤ room)
 
     -- the values are those that stand in the file
     pub record Read : Type 0 where
-      pub is-safe : IsSafe E pass file (split file .salt) (numberLow (split file .iter)) K L (split file .iv) body
+      pub is-safe : IsSafe (E .format) pass file (split file .salt) (numberLow (split file .iter)) K L (split file .iv) body
       pub under : numberLow (split file .iter) ≤ ceiling
       pub fits : length body ≤ room
 
@@ -294,16 +294,16 @@ module _ (E : Edition) (X : Laws E) where
     read-safe a =
         let p = split file in
         let n = (length file - 200) / 16 in
-        let s = E .stretched pass (p .salt) (numberLow (p .iter)) in
+        let s = E .format .stretched pass (p .salt) (numberLow (p .iter)) in
         let e = early E file pass ceiling room (λ k u v w. omega (arith, a .accepts)) in
         let r = passed-early E file pass ceiling room e in
         let w = late-passed E p s n (sym (ap (λ (r : Report). r .number) r) ∙ a .accepts) in
         let x = r ∙ is-accepted E p s n (w .0) (w .1) in
-        let eK : keyK E p (s .key) ≡ K = sym (ap (λ (r : Report). r .keyK) x) ∙ a .givesK in
-        let eL : keyL E p (s .key) ≡ L = sym (ap (λ (r : Report). r .keyL) x) ∙ a .givesL in
-        let eB : bodyOf E p (s .key) n .done ≡ body = sym (ap (λ (r : Report). r .body) x) ∙ a .givesBody in
-        let z : IsSafe E pass file (p .salt) (numberLow (p .iter)) K L (p .iv) body
-        = subst₃ (λ (k l b : List ℕ). IsSafe E pass file (p .salt) (numberLow (p .iter)) k l (p .iv) b) eK eL eB (safe file pass ceiling room fb e (w .0) (w .1)) in
+        let eK : keyK (E .format) p (s .key) ≡ K = sym (ap (λ (r : Report). r .keyK) x) ∙ a .givesK in
+        let eL : keyL (E .format) p (s .key) ≡ L = sym (ap (λ (r : Report). r .keyL) x) ∙ a .givesL in
+        let eB : bodyOf (E .format) p (s .key) n .done ≡ body = sym (ap (λ (r : Report). r .body) x) ∙ a .givesBody in
+        let z : IsSafe (E .format) pass file (p .salt) (numberLow (p .iter)) K L (p .iv) body
+        = subst₃ (λ (k l b : List ℕ). IsSafe (E .format) pass file (p .salt) (numberLow (p .iter)) k l (p .iv) b) eK eL eB (safe file pass ceiling room fb e (w .0) (w .1)) in
         let f = file-long pass file (p .salt) (numberLow (p .iter)) K L (p .iv) body z in
         let g = ltb-false room (length file - 200) (e .t3) in
         record { is-safe = z; under = ltb-false ceiling (numberLow (p .iter)) (e .t6); fits = omega arith }
@@ -316,7 +316,7 @@ module _ (E : Edition) (X : Laws E) where
 
   -- a file and its passphrase are a safe of one body only, under one set of values
   pub only-safe : (pass file : List ℕ) (salt salt′ : List ℕ) (iter iter′ : ℕ) (K K′ L L′ iv iv′ body body′ : List ℕ)
-      → IsSafe E pass file salt iter K L iv body → IsSafe E pass file salt′ iter′ K′ L′ iv′ body′
+      → IsSafe (E .format) pass file salt iter K L iv body → IsSafe (E .format) pass file salt′ iter′ K′ L′ iv′ body′
       → (salt ≡ salt′) × (iter ≡ iter′) × (K ≡ K′) × (L ≡ L′) × (iv ≡ iv′) × (body ≡ body′)
   unfolding partsOf
   only-safe pass file salt salt′ iter iter′ K K′ L L′ iv iv′ body body′ z z′ =

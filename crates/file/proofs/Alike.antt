@@ -23,16 +23,16 @@ other true h = refl
 other false h = absurd (h refl)
 
 module _ (E : Edition) (X : Laws E) where
-  pub count-opened : (p : Parts) (P′ : List ℕ) (n : ℕ) → bodyOf E p P′ n .count ≡ 4 + n
+  pub count-opened : (p : Parts) (P′ : List ℕ) (n : ℕ) → bodyOf (E .format) p P′ n .count ≡ 4 + n
   unfolding keysOpened bodyOpened
   count-opened p P′ n =
-      opened-count (cbcD (E .cipher) (keyK E p P′)) n (p .iv) (p .encrypted) (keysOpened E P′ (p .keys) .count)
-      ∙ ap (λ (k : ℕ). k + n) (opened-count (ecbD (E .cipher) P′) 4 (zeros 16) (p .keys) 0)
+      opened-count (cbcD (E .format .cipher) (keyK (E .format) p P′)) n (p .iv) (p .encrypted) (keysOpened (E .format) P′ (p .keys) .count)
+      ∙ ap (λ (k : ℕ). k + n) (opened-count (ecbD (E .format .cipher) P′) 4 (zeros 16) (p .keys) 0)
 
   -- a reading that is refused by none of 1 to 7
   module _ (file pass : List ℕ) (ceiling room : ℕ) (fb : Bytes file) (h : Late (readingOf E file pass ceiling room .number)) where
     abbrev key : Stretched
-    key = E .stretched pass (split file .salt) (numberLow (split file .iter))
+    key = E .format .stretched pass (split file .salt) (numberLow (split file .iter))
 
     pub compressed : key .count ≡ compressionsOf (length pass) (numberLow (split file .iter))
     compressed =

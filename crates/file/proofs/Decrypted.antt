@@ -25,26 +25,26 @@ module _ (E : Edition) (X : Laws E) (file P′ : List ℕ) (fb : Bytes file) (si
   n = (length file - 200) / 16
 
   abbrev o : Opening
-  o = bodyOf E p P′ n
+  o = bodyOf (E .format) p P′ n
 
   pub whole-body : length file ≡ 200 + 16 * n
-      → (o .done ≡ decipher (cbcD (E .cipher) (keyK E p P′)) n (p .iv) (p .encrypted))
+      → (o .done ≡ decipher (cbcD (E .format .cipher) (keyK (E .format) p P′)) n (p .iv) (p .encrypted))
       × (length (o .done) ≡ length file - 200)
       × (o .rest ≡ [])
       × (o .count ≡ 4 + n)
       × Bytes (o .done)
   unfolding bodyOpened
   whole-body whole =
-      let ks = keysOpened E P′ (p .keys) in
+      let ks = keysOpened (E .format) P′ (p .keys) in
       let l = lengths p (length file - 200) (split-sizes file (omega arith)) in
       let b = bytes-split file fb in
       let long : length file - 200 ≡ 16 * n = omega arith in
       let hk = keys-sized E X P′ sized (p .keys) (record { long = l .keys-long; bytes = b .keys-bytes }) in
-      let hb = body-sized E X (keyK E p P′) (sized-take 32 64 (ks .done) (lit≤ tt) hk) (p .iv) (record { long = l .iv-long; bytes = b .iv-bytes }) (ks .count)
+      let hb = body-sized E X (keyK (E .format) p P′) (sized-take 32 64 (ks .done) (lit≤ tt) hk) (p .iv) (record { long = l .iv-long; bytes = b .iv-bytes }) (ks .count)
       n (p .encrypted) (record { long = l .encrypted-long ∙ long; bytes = b .encrypted-bytes }) in (
-        body-done E X (keyK E p P′) (p .iv) n (p .encrypted) (ks .count),
+        body-done E X (keyK (E .format) p P′) (p .iv) n (p .encrypted) (ks .count),
         hb .long ∙ sym long,
-        opened-rest (cbcD (E .cipher) (keyK E p P′)) n (p .iv) (p .encrypted) (ks .count) ∙ drop-of-length-le (p .encrypted) {i = 16 * n} (omega (arith, l .encrypted-long)),
+        opened-rest (cbcD (E .format .cipher) (keyK (E .format) p P′)) n (p .iv) (p .encrypted) (ks .count) ∙ drop-of-length-le (p .encrypted) {i = 16 * n} (omega (arith, l .encrypted-long)),
         count-opened E X p P′ n,
         hb .bytes,
       )

@@ -16,7 +16,7 @@ use Rattle.chain.specs.Opening.{Opening}
 use Rattle.file.specs.Layout.{Parts, split, differ}
 use Rattle.file.specs.Refusals.{Test, First, here, later}
 use Rattle.file.proofs.Tables.{between, Decided, passes, stops, decide, first-stops, first-between}
-use Rattle.file.specs.Edition.{Edition, Stretched}
+use Rattle.file.specs.Edition.{Format, Edition, Stretched}
 use Rattle.file.specs.Reading.{Report, refused, accepted, workspaceOf, earlyTests, keyK, keyL, bodyOf, checked, readingOf}
 use Rattle.file.specs.Writing.{Writing, unwritten, earlyWriteTests, writeTests, written, writingOf}
 use Rattle.file.proofs.Passed.{Late, Early, as-early, early, passed-early, refused-first, Matches, Whole, late-passed, is-accepted, is-nine, is-eight}
@@ -45,10 +45,10 @@ module _ (E : Edition) (file pass : List ℕ) (ceiling room : ℕ) where
   n = (length file - 200) / 16
 
   abbrev s : Stretched
-  s = E .stretched pass (p .salt) (numberLow (p .iter))
+  s = E .format .stretched pass (p .salt) (numberLow (p .iter))
 
   abbrev o : Opening
-  o = bodyOf E p (s .key) n
+  o = bodyOf (E .format) p (s .key) n
 
   abbrev r : Report
   r = readingOf E file pass ceiling room
@@ -57,14 +57,14 @@ module _ (E : Edition) (file pass : List ℕ) (ceiling room : ℕ) where
   Passing = Early E p n file pass ceiling room
 
   pub data Ends : Type 0 where
-    stopped : (k : ℕ) → 1 ≤ k → k ≤ 7 → First k (earlyTests E p n file pass ceiling room) → r ≡ refused k 0 0 → Ends
+    stopped : (k : ℕ) → 1 ≤ k → k ≤ 7 → First k (earlyTests (E .format) p n file pass ceiling room) → r ≡ refused k 0 0 → Ends
     unmatched : Passing → (Matches p s → ⊥) → r ≡ refused 8 (s .count) 0 → Ends
     broken : Passing → Matches p s → r ≡ refused 9 (s .count) (o .count) → Ends
-    whole : Passing → Matches p s → Whole E p s n → r ≡ accepted E (keyK E p (s .key)) (keyL E p (s .key)) (s .count) (o .count) (o .done) → Ends
+    whole : Passing → Matches p s → Whole E p s n → r ≡ accepted E (keyK (E .format) p (s .key)) (keyL (E .format) p (s .key)) (s .count) (o .count) (o .done) → Ends
 
   pub ends : Ends
   unfolding readingOf earlyTests
-  ends = go (decide (λ (k : ℕ). refused k 0 0) (checked E p s n) (earlyTests E p n file pass ceiling room))
+  ends = go (decide (λ (k : ℕ). refused k 0 0) (checked E p s n) (earlyTests (E .format) p n file pass ceiling room))
     where
       judge : Passing → Matches p s → (b : Bool) → eqb (checked E p s n .number) 0 ≡ b → Ends
       judge e m true h = let w = late-passed E p s n (eqb-true _ _ h) in whole e m (w .1) (passed-early E file pass ceiling room e ∙ is-accepted E p s n m (w .1))
@@ -75,24 +75,24 @@ module _ (E : Edition) (file pass : List ℕ) (ceiling room : ℕ) where
           (passed-early E file pass ceiling room e ∙ is-eight E p s n h)
       check e false h = judge e (record { t8 = h }) (eqb (checked E p s n .number) 0) refl
 
-      go : Decided (λ (k : ℕ). refused k 0 0) (earlyTests E p n file pass ceiling room) (checked E p s n) → Ends
+      go : Decided (λ (k : ℕ). refused k 0 0) (earlyTests (E .format) p n file pass ceiling room) (checked E p s n) → Ends
       go (passes t e) = check (as-early E file pass ceiling room t) (differ (s .check) (p .check)) refl
       go (stops k f e) =
-          let b = first-between 1 7 k {ts = earlyTests E p n file pass ceiling room} refl f in
+          let b = first-between 1 7 k {ts = earlyTests (E .format) p n file pass ceiling room} refl f in
           stopped k (b .0) (b .1) f e
 
   -- the numbers of the early tests, in their order
-  pub early-numbers : map (λ (t : Test). t .number) (earlyTests E p n file pass ceiling room) ≡ 1 ∷ 2 ∷ 3 ∷ 4 ∷ 5 ∷ 6 ∷ 7 ∷ []
+  pub early-numbers : map (λ (t : Test). t .number) (earlyTests (E .format) p n file pass ceiling room) ≡ 1 ∷ 2 ∷ 3 ∷ 4 ∷ 5 ∷ 6 ∷ 7 ∷ []
   unfolding earlyTests
   early-numbers = refl
 
   -- a number of 1 to 7 is that of the first test that fails
-  pub first-fails : (k : ℕ) → 1 ≤ k → k ≤ 7 → (r .number ≡ k) ↔ First k (earlyTests E p n file pass ceiling room)
+  pub first-fails : (k : ℕ) → 1 ≤ k → k ≤ 7 → (r .number ≡ k) ↔ First k (earlyTests (E .format) p n file pass ceiling room)
   unfolding refused accepted
   first-fails k a b = (λ h. go h ends, λ f. ap num (refused-first E file pass ceiling room k f))
     where
-      go : r .number ≡ k → Ends → First k (earlyTests E p n file pass ceiling room)
-      go h (stopped j c d f q) = subst (λ (m : ℕ). First m (earlyTests E p n file pass ceiling room)) (sym (ap num q) ∙ h) f
+      go : r .number ≡ k → Ends → First k (earlyTests (E .format) p n file pass ceiling room)
+      go h (stopped j c d f q) = subst (λ (m : ℕ). First m (earlyTests (E .format) p n file pass ceiling room)) (sym (ap num q) ∙ h) f
       go h (unmatched e m q) = absurd (let z : 8 ≡ k = sym (ap num q) ∙ h in omega arith)
       go h (broken e m q) = absurd (let z : 9 ≡ k = sym (ap num q) ∙ h in omega arith)
       go h (whole e m w q) = absurd (let z : 0 ≡ k = sym (ap num q) ∙ h in omega arith)
@@ -101,7 +101,7 @@ module _ (E : Edition) (file pass : List ℕ) (ceiling room : ℕ) where
   pub under-ceiling : numberLow (p .iter) ≤ ceiling → r .number ≡ 6 → ⊥
   unfolding earlyTests
   under-ceiling h e =
-      not-both (ltb ceiling (numberLow (p .iter))) (first-failing 6 (earlyTests E p n file pass ceiling room) (first-fails 6 (omega arith) (omega arith) .0 e))
+      not-both (ltb ceiling (numberLow (p .iter))) (first-failing 6 (earlyTests (E .format) p n file pass ceiling room) (first-fails 6 (omega arith) (omega arith) .0 e))
       (le-ltb ceiling (numberLow (p .iter)) h)
     where
       not-both : (b : Bool) → (b || false) ≡ true → b ≡ false → ⊥
@@ -109,10 +109,10 @@ module _ (E : Edition) (file pass : List ℕ) (ceiling room : ℕ) where
       not-both false f g = false≢true f
 
   -- under a ceiling below the floor nothing is accepted
-  pub floor-under : r .number ≡ 0 → E .floor ≤ ceiling
+  pub floor-under : r .number ≡ 0 → E .format .floor ≤ ceiling
   floor-under h =
       let e = early E file pass ceiling room (λ k a b q. omega arith) in
-      let a = ltb-false (numberLow (p .iter)) (E .floor) (e .t5) in
+      let a = ltb-false (numberLow (p .iter)) (E .format .floor) (e .t5) in
       let b = ltb-false ceiling (numberLow (p .iter)) (e .t6) in
       omega arith
 
@@ -234,16 +234,17 @@ module _ (E : Edition) (file pass : List ℕ) (ceiling room : ℕ) where
         go (whole e m w q) = ap (λ (t : Report). t .blocks) q
 
 -- A writing: a refusal's number is that of the first test that fails, and it leaves zeros.
+pub write-numbers : (F : Format) (good : Bool) (pass : List ℕ) (iter : ℕ) (K iv body : List ℕ) (room : ℕ)
+    → map (λ (t : Test). t .number) (writeTests F good pass iter K iv body room) ≡ 1 ∷ 2 ∷ 3 ∷ 5 ∷ 9 ∷ 10 ∷ []
+unfolding writeTests earlyWriteTests
+write-numbers F good pass iter K iv body room = refl
+
 module _ (E : Edition) (pass salt : List ℕ) (iter : ℕ) (K L iv body : List ℕ) (room : ℕ) where
   abbrev tests : List Test
-  tests = writeTests E pass iter K iv body room
+  tests = writeTests (E .format) (E .wellFormed body) pass iter K iv body room
 
   abbrev w : Writing
   w = writingOf E pass salt iter K L iv body room
-
-  pub write-numbers : map (λ (t : Test). t .number) tests ≡ 1 ∷ 2 ∷ 3 ∷ 5 ∷ 9 ∷ 10 ∷ []
-  unfolding writeTests earlyWriteTests
-  write-numbers = refl
 
   pub write-between : between 1 10 tests ≡ true
   unfolding writeTests earlyWriteTests

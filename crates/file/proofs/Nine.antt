@@ -25,28 +25,28 @@ module _ (E : Edition) (X : Laws E) (file pass : List ℕ) (ceiling room : ℕ) 
   n = (length file - 200) / 16
 
   abbrev s : Stretched
-  s = E .stretched pass (p .salt) (numberLow (p .iter))
+  s = E .format .stretched pass (p .salt) (numberLow (p .iter))
 
   abbrev body : List ℕ
-  body = bodyOf E p (s .key) n .done
+  body = bodyOf (E .format) p (s .key) n .done
 
   -- the body's fields have these data, and the file has the HMAC of them
   abbrev pub Described : Type 0
-  Described = (d : List ℕ) × E .Body body d × (E .hmac (keyL E p (s .key)) d ≡ p .mac)
+  Described = (d : List ℕ) × E .format .Body body d × (E .format .hmac (keyL (E .format) p (s .key)) d ≡ p .mac)
 
   whole : Described → Whole E p s n
   whole (d, b, e) =
       let t = X .decides body d b in
       record {
         fine = ap not (t .0);
-        mac = same-is _ (p .mac) (ap (E .hmac (keyL E p (s .key))) (t .1) ∙ e);
+        mac = same-is _ (p .mac) (ap (E .format .hmac (keyL (E .format) p (s .key))) (t .1) ∙ e);
       }
 
   described : Bytes body → Whole E p s n → Described
   described bb w = (
     E .covered body,
     X .describes body bb (not-false (E .wellFormed body) (w .fine)),
-    same-of (E .hmac (keyL E p (s .key)) (E .covered body)) (p .mac) (w .mac),
+    same-of (E .format .hmac (keyL (E .format) p (s .key)) (E .covered body)) (p .mac) (w .mac),
   )
 
   pub nine : Late (readingOf E file pass ceiling room .number) → Matches p s → (readingOf E file pass ceiling room .number ≡ 9) ↔ (Described → ⊥)

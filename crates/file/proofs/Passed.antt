@@ -24,7 +24,7 @@ pub record Early (E : Edition) (p : Parts) (n : ℕ) (file pass : List ℕ) (cei
   pub t2 : ltb 1024 (length pass) ≡ false
   pub t3 : ltb room (length file - 200) ≡ false
   pub t4 : differ (p .tag) tag ≡ false
-  pub t5 : ltb (numberLow (p .iter)) (E .floor) ≡ false
+  pub t5 : ltb (numberLow (p .iter)) (E .format .floor) ≡ false
   pub t6 : ltb ceiling (numberLow (p .iter)) ≡ false
   pub t7 : not (eqb (firstMarker (n + 3) (drop 152 file)) n) ≡ false
 
@@ -36,53 +36,53 @@ module _ (E : Edition) (file pass : List ℕ) (ceiling room : ℕ) where
   n = (length file - 200) / 16
 
   abbrev s : Stretched
-  s = E .stretched pass (p .salt) (numberLow (p .iter))
+  s = E .format .stretched pass (p .salt) (numberLow (p .iter))
 
   pub passed-early : Early E p n file pass ceiling room → readingOf E file pass ceiling room ≡ checked E p s n
   unfolding readingOf earlyTests
   passed-early e =
-      all-pass (λ (k : ℕ). refused k 0 0) _ (earlyTests E p n file pass ceiling room)
+      all-pass (λ (k : ℕ). refused k 0 0) _ (earlyTests (E .format) p n file pass ceiling room)
       (e .t1, (e .t2, (e .t3, (e .t4, (e .t5, (e .t6, (e .t7, tt)))))))
 
-  pub as-early : Pass (earlyTests E p n file pass ceiling room) → Early E p n file pass ceiling room
+  pub as-early : Pass (earlyTests (E .format) p n file pass ceiling room) → Early E p n file pass ceiling room
   unfolding earlyTests
   as-early t = record { t1 = t .0; t2 = t .1 .0; t3 = t .1 .1 .0; t4 = t .1 .1 .1 .0; t5 = t .1 .1 .1 .1 .0; t6 = t .1 .1 .1 .1 .1 .0; t7 = t .1 .1 .1 .1 .1 .1 .0 }
 
   pub early : Late (readingOf E file pass ceiling room .number) → Early E p n file pass ceiling room
   unfolding readingOf earlyTests refused
-  early h = go (decide (λ (k : ℕ). refused k 0 0) (checked E p s n) (earlyTests E p n file pass ceiling room))
+  early h = go (decide (λ (k : ℕ). refused k 0 0) (checked E p s n) (earlyTests (E .format) p n file pass ceiling room))
     where
-      go : Decided (λ (k : ℕ). refused k 0 0) (earlyTests E p n file pass ceiling room) (checked E p s n) → Early E p n file pass ceiling room
+      go : Decided (λ (k : ℕ). refused k 0 0) (earlyTests (E .format) p n file pass ceiling room) (checked E p s n) → Early E p n file pass ceiling room
       go (passes t e) = as-early t
       go (stops k f e) =
-          let b = first-between 1 7 k {ts = earlyTests E p n file pass ceiling room} refl f in
+          let b = first-between 1 7 k {ts = earlyTests (E .format) p n file pass ceiling room} refl f in
           absurd (h k (b .0) (b .1) (ap (λ (r : Report). r .number) e))
 
   -- a number of 1 to 7 is that of the first test that fails
-  pub refused-first : (k : ℕ) → First k (earlyTests E p n file pass ceiling room) → readingOf E file pass ceiling room ≡ refused k 0 0
+  pub refused-first : (k : ℕ) → First k (earlyTests (E .format) p n file pass ceiling room) → readingOf E file pass ceiling room ≡ refused k 0 0
   unfolding readingOf
-  refused-first k f = first-stops (λ (k : ℕ). refused k 0 0) (checked E p s n) k (earlyTests E p n file pass ceiling room) f
+  refused-first k f = first-stops (λ (k : ℕ). refused k 0 0) (checked E p s n) k (earlyTests (E .format) p n file pass ceiling room) f
 
 -- the tests 8 and 9
 pub record Matches (p : Parts) (s : Stretched) : Type 0 where
   pub t8 : differ (s .check) (p .check) ≡ false
 
 pub record Whole (E : Edition) (p : Parts) (s : Stretched) (n : ℕ) : Type 0 where
-  pub fine : not (E .wellFormed (bodyOf E p (s .key) n .done)) ≡ false
-  pub mac : differ (E .hmac (keyL E p (s .key)) (E .covered (bodyOf E p (s .key) n .done))) (p .mac) ≡ false
+  pub fine : not (E .wellFormed (bodyOf (E .format) p (s .key) n .done)) ≡ false
+  pub mac : differ (E .format .hmac (keyL (E .format) p (s .key)) (E .covered (bodyOf (E .format) p (s .key) n .done))) (p .mac) ≡ false
 
 module _ (E : Edition) (p : Parts) (s : Stretched) (n : ℕ) where
   abbrev o : Opening
-  o = bodyOf E p (s .key) n
+  o = bodyOf (E .format) p (s .key) n
 
   abbrev bad : Bool
   bad = not (E .wellFormed (o .done))
 
   abbrev off : Bool
-  off = differ (E .hmac (keyL E p (s .key)) (E .covered (o .done))) (p .mac)
+  off = differ (E .format .hmac (keyL (E .format) p (s .key)) (E .covered (o .done))) (p .mac)
 
   abbrev yes : Report
-  yes = accepted E (keyK E p (s .key)) (keyL E p (s .key)) (s .count) (o .count) (o .done)
+  yes = accepted E (keyK (E .format) p (s .key)) (keyL (E .format) p (s .key)) (s .count) (o .count) (o .done)
 
   not-matched : (b : Bool) (x : Report) (c : ℕ) → cond b (refused 8 c 0) x .number ≡ 0 → (b ≡ false) × (x .number ≡ 0)
   unfolding refused

@@ -26,9 +26,9 @@ abbrev block : ℕ → List ℕ → List ℕ
 block i file = take 16 (drop (16 * i) (drop 152 file))
 
 module _ (E : Edition) (X : Laws E) where
-  module _ (pass file salt : List ℕ) (iter : ℕ) (K L iv body : List ℕ) (z : IsSafe E pass file salt iter K L iv body) where
+  module _ (pass file salt : List ℕ) (iter : ℕ) (K L iv body : List ℕ) (z : IsSafe (E .format) pass file salt iter K L iv body) where
     abbrev c : List ℕ
-    c = cbc E K iv body
+    c = cbc (E .format) K iv body
 
     long : length c ≡ 16 * (length body / 16)
     long =
@@ -40,8 +40,8 @@ module _ (E : Edition) (X : Laws E) where
     behind =
         let t = tail-is E X pass file salt iter K L iv body z in
         ap (λ (l : List ℕ). take 16 (drop (16 * (length body / 16)) l)) t
-        ∙ ap (take 16) (drop-at c (marker ++ E .hmac L (z .covered)) (16 * (length body / 16)) long)
-        ∙ take-at marker (E .hmac L (z .covered)) 16 marker-sized
+        ∙ ap (take 16) (drop-at c (marker ++ E .format .hmac L (z .covered)) (16 * (length body / 16)) long)
+        ∙ take-at marker (E .format .hmac L (z .covered)) 16 marker-sized
 
     -- and is no block of it
     within : (i : ℕ) → i < length body / 16 → block i file ≡ marker → ⊥
@@ -52,12 +52,12 @@ module _ (E : Edition) (X : Laws E) where
         z .no-marker i h
         (sym
         (ap (λ (l : List ℕ). take 16 (drop (16 * i) l)) t
-        ∙ ap (take 16) (drop-append-le (16 * i) c (marker ++ E .hmac L (z .covered)) (omega arith))
-        ∙ take-append-le 16 (drop (16 * i) c) (marker ++ E .hmac L (z .covered)) (omega arith))
+        ∙ ap (take 16) (drop-append-le (16 * i) c (marker ++ E .format .hmac L (z .covered)) (omega arith))
+        ∙ take-append-le 16 (drop (16 * i) c) (marker ++ E .format .hmac L (z .covered)) (omega arith))
         ∙ e)
 
   pub no-prefix : (pass pass′ file salt salt′ : List ℕ) (iter iter′ k : ℕ) (K L iv body K′ L′ iv′ body′ : List ℕ)
-      → IsSafe E pass file salt iter K L iv body → k < length file → IsSafe E pass′ (take k file) salt′ iter′ K′ L′ iv′ body′ → ⊥
+      → IsSafe (E .format) pass file salt iter K L iv body → k < length file → IsSafe (E .format) pass′ (take k file) salt′ iter′ K′ L′ iv′ body′ → ⊥
   no-prefix pass pass′ file salt salt′ iter iter′ k K L iv body K′ L′ iv′ body′ z h z′ =
       let l = file-long E X pass file salt iter K L iv body z in
       let l′ = file-long E X pass′ (take k file) salt′ iter′ K′ L′ iv′ body′ z′ in

@@ -25,9 +25,9 @@ pub record Writable (E : Edition) (pass : List ℕ) (iter : ℕ) (K iv body : Li
   pub t1 : badBody (length body) ≡ false
   pub t2 : ltb 1024 (length pass) ≡ false
   pub t3 : ltb room (length body + 200) ≡ false
-  pub t5 : ltb iter (E .floor) ≡ false
+  pub t5 : ltb iter (E .format .floor) ≡ false
   pub t9 : not (E .wellFormed body) ≡ false
-  pub t10 : not (clear (length body / 16) (cbc E K iv body)) ≡ false
+  pub t10 : not (clear (length body / 16) (cbc (E .format) K iv body)) ≡ false
 
 pub good-body : (n : ℕ) → badBody n ≡ false → (32 ≤ n) × (n ≤ 4194096) × (n % 16 ≡ 0)
 unfolding badBody
@@ -45,34 +45,34 @@ unfolding badBody
 is-body n a b c = rw (le-ltb n 32 a, le-ltb 4194096 n b, eq-eqb (n % 16) 0 c)
 
 -- a safe's file is the one that its values make
-pub file-of : (E : Edition) (X : Laws E) {pass file salt : List ℕ} {iter : ℕ} {K L iv body : List ℕ} → IsSafe E pass file salt iter K L iv body
-    → file ≡ fileOf E pass salt iter K L iv body (E .covered body)
+pub file-of : (E : Edition) (X : Laws E) {pass file salt : List ℕ} {iter : ℕ} {K L iv body : List ℕ} → IsSafe (E .format) pass file salt iter K L iv body
+    → file ≡ fileOf (E .format) pass salt iter K L iv body (E .covered body)
 file-of E X {pass} {salt = salt} {iter = iter} {K = K} {L = L} {iv = iv} {body = body} z =
-    z .is-file ∙ ap (fileOf E pass salt iter K L iv body) (sym (X .decides body (z .covered) (z .well-formed) .1))
+    z .is-file ∙ ap (fileOf (E .format) pass salt iter K L iv body) (sym (X .decides body (z .covered) (z .well-formed) .1))
 
 module _ (E : Edition) (X : Laws E) (pass salt : List ℕ) (iter : ℕ) (K L iv body : List ℕ) (room : ℕ) where
   is-written : Writable E pass iter K iv body room
-      → writingOf E pass salt iter K L iv body room ≡ record { number = 0; output = fileOf E pass salt iter K L iv body (E .covered body) ++ zeros (room - (length body + 200)) }
+      → writingOf E pass salt iter K L iv body room ≡ record { number = 0; output = fileOf (E .format) pass salt iter K L iv body (E .covered body) ++ zeros (room - (length body + 200)) }
   unfolding writingOf written writeTests earlyWriteTests
-  is-written w = all-pass (λ (k : ℕ). unwritten k room) _ (writeTests E pass iter K iv body room) (w .t1, (w .t2, (w .t3, (w .t5, (w .t9, (w .t10, tt))))))
+  is-written w = all-pass (λ (k : ℕ). unwritten k room) _ (writeTests (E .format) (E .wellFormed body) pass iter K iv body room) (w .t1, (w .t2, (w .t3, (w .t5, (w .t9, (w .t10, tt))))))
 
   writes : writingOf E pass salt iter K L iv body room .number ≡ 0 → Writable E pass iter K iv body room
   unfolding writingOf written writeTests earlyWriteTests unwritten
-  writes h = go (decide (λ (k : ℕ). unwritten k room) (record { number = 0; output = fileOf E pass salt iter K L iv body (E .covered body) ++ zeros (room - (length body + 200)) }) (writeTests E pass iter K iv body room))
+  writes h = go (decide (λ (k : ℕ). unwritten k room) (record { number = 0; output = fileOf (E .format) pass salt iter K L iv body (E .covered body) ++ zeros (room - (length body + 200)) }) (writeTests (E .format) (E .wellFormed body) pass iter K iv body room))
     where
-      go : Decided (λ (k : ℕ). unwritten k room) (writeTests E pass iter K iv body room) (record { number = 0; output = fileOf E pass salt iter K L iv body (E .covered body) ++ zeros (room - (length body + 200)) }) → Writable E pass iter K iv body room
+      go : Decided (λ (k : ℕ). unwritten k room) (writeTests (E .format) (E .wellFormed body) pass iter K iv body room) (record { number = 0; output = fileOf (E .format) pass salt iter K L iv body (E .covered body) ++ zeros (room - (length body + 200)) }) → Writable E pass iter K iv body room
       go (passes t e) = record { t1 = t .0; t2 = t .1 .0; t3 = t .1 .1 .0; t5 = t .1 .1 .1 .0; t9 = t .1 .1 .1 .1 .0; t10 = t .1 .1 .1 .1 .1 .0 }
       go (stops k f e) =
-          let b = first-between 1 10 k {ts = writeTests E pass iter K iv body room} refl f in
+          let b = first-between 1 10 k {ts = writeTests (E .format) (E .wellFormed body) pass iter K iv body room} refl f in
           let z : 0 ≡ k = sym h ∙ ap (λ (w : Writing). w .number) e in absurd (omega arith)
 
-  pub written-safe : Values salt iter K L iv body → Writable E pass iter K iv body room → IsSafe E pass (fileOf E pass salt iter K L iv body (E .covered body)) salt iter K L iv body
+  pub written-safe : Values salt iter K L iv body → Writable E pass iter K iv body room → IsSafe (E .format) pass (fileOf (E .format) pass salt iter K L iv body (E .covered body)) salt iter K L iv body
   written-safe v w =
       let g = good-body (length body) (w .t1) in
       record {
         passphrase-fits = ltb-false 1024 (length pass) (w .t2);
         salt-sized = v .salt-sized;
-        iter-floor = ltb-false iter (E .floor) (w .t5);
+        iter-floor = ltb-false iter (E .format .floor) (w .t5);
         iter-fits = v .iter-fits;
         K-sized = v .K-sized;
         L-sized = v .L-sized;
@@ -83,23 +83,23 @@ module _ (E : Edition) (X : Laws E) (pass salt : List ℕ) (iter : ℕ) (K L iv 
         body-whole = g .2;
         covered = E .covered body;
         well-formed = X .describes body (v .body-bytes) (not-false (E .wellFormed body) (w .t9));
-        no-marker = clear-each (length body / 16) (cbc E K iv body) (not-false (clear (length body / 16) (cbc E K iv body)) (w .t10));
+        no-marker = clear-each (length body / 16) (cbc (E .format) K iv body) (not-false (clear (length body / 16) (cbc (E .format) K iv body)) (w .t10));
         is-file = refl;
       }
 
-  pub safe-writes : {file : List ℕ} → IsSafe E pass file salt iter K L iv body → length body + 200 ≤ room → Writable E pass iter K iv body room
+  pub safe-writes : {file : List ℕ} → IsSafe (E .format) pass file salt iter K L iv body → length body + 200 ≤ room → Writable E pass iter K iv body room
   safe-writes z h = record {
     t1 = is-body (length body) (z .body-least) (z .body-most) (z .body-whole);
     t2 = le-ltb 1024 (length pass) (z .passphrase-fits);
     t3 = le-ltb room (length body + 200) h;
-    t5 = le-ltb iter (E .floor) (z .iter-floor);
+    t5 = le-ltb iter (E .format .floor) (z .iter-floor);
     t9 = ap not (X .decides body (z .covered) (z .well-formed) .0);
-    t10 = ap not (each-clear (length body / 16) (cbc E K iv body) (z .no-marker));
+    t10 = ap not (each-clear (length body / 16) (cbc (E .format) K iv body) (z .no-marker));
   }
 
   -- the writer accepts exactly what is a safe that fits
   pub write-exactly : Values salt iter K L iv body
-      → (writingOf E pass salt iter K L iv body room .number ≡ 0) ↔ ((file : List ℕ) × IsSafe E pass file salt iter K L iv body × (length body + 200 ≤ room))
+      → (writingOf E pass salt iter K L iv body room .number ≡ 0) ↔ ((file : List ℕ) × IsSafe (E .format) pass file salt iter K L iv body × (length body + 200 ≤ room))
   write-exactly v = (
     λ h. (_, written-safe v (writes h), ltb-false room (length body + 200) (writes h .t3)),
     λ t. ap (λ (w : Writing). w .number) (is-written (safe-writes (t .1) (t .2))),
@@ -107,18 +107,18 @@ module _ (E : Edition) (X : Laws E) (pass salt : List ℕ) (iter : ℕ) (K L iv 
 
   -- READING BACK: the file stands at the front of the output, zeros follow, and it is read as the same body and keys
   module _ (v : Values salt iter K L iv body) (h : writingOf E pass salt iter K L iv body room .number ≡ 0) where
-    pub output-is : writingOf E pass salt iter K L iv body room .output ≡ fileOf E pass salt iter K L iv body (E .covered body) ++ zeros (room - (length body + 200))
+    pub output-is : writingOf E pass salt iter K L iv body room .output ≡ fileOf (E .format) pass salt iter K L iv body (E .covered body) ++ zeros (room - (length body + 200))
     output-is = ap (λ (w : Writing). w .output) (is-written (writes h))
 
-    pub front-is : take (length body + 200) (writingOf E pass salt iter K L iv body room .output) ≡ fileOf E pass salt iter K L iv body (E .covered body)
+    pub front-is : take (length body + 200) (writingOf E pass salt iter K L iv body room .output) ≡ fileOf (E .format) pass salt iter K L iv body (E .covered body)
     front-is =
-        let f = file-long E X pass (fileOf E pass salt iter K L iv body (E .covered body)) salt iter K L iv body (written-safe v (writes h)) in
-        ap (take (length body + 200)) output-is ∙ take-at (fileOf E pass salt iter K L iv body (E .covered body)) (zeros (room - (length body + 200))) (length body + 200) (omega arith)
+        let f = file-long E X pass (fileOf (E .format) pass salt iter K L iv body (E .covered body)) salt iter K L iv body (written-safe v (writes h)) in
+        ap (take (length body + 200)) output-is ∙ take-at (fileOf (E .format) pass salt iter K L iv body (E .covered body)) (zeros (room - (length body + 200))) (length body + 200) (omega arith)
 
     pub read-back : (ceiling space : ℕ) → iter ≤ ceiling → length body ≤ space
         → Answers (readingOf E (take (length body + 200) (writingOf E pass salt iter K L iv body room .output)) pass ceiling space) K L body
     read-back ceiling space hc hs =
-        rw front-is (safe-read E X pass (fileOf E pass salt iter K L iv body (E .covered body)) salt iter K L iv body (written-safe v (writes h)) ceiling space hc hs)
+        rw front-is (safe-read E X pass (fileOf (E .format) pass salt iter K L iv body (E .covered body)) salt iter K L iv body (written-safe v (writes h)) ceiling space hc hs)
 
 abbrev holding : List ℕ → Writing
 holding o = record { number = 0; output = o }

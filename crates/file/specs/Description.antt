@@ -7,16 +7,16 @@ use Rattle.words.specs.Numbers.{Bytes, Sized, bytesLow}
 use Rattle.words.specs.Slices.{zeros}
 use Rattle.chain.specs.Modes.{ecbE, cbcE, encipher}
 use Rattle.file.specs.Layout.{Parts, join, tag, marker}
-use Rattle.file.specs.Edition.{Edition}
+use Rattle.file.specs.Edition.{Format}
 
-module _ (E : Edition) where
+module _ (F : Format) where
   -- B1 to B4: keys K and L, in ECB under P'
   unfoldable pub wrapped : (P′ K L : List ℕ) → List ℕ
-  wrapped P′ K L = encipher (ecbE (E .cipher) P′) 4 (zeros 16) (K ++ L)
+  wrapped P′ K L = encipher (ecbE (F .cipher) P′) 4 (zeros 16) (K ++ L)
 
   -- the body, in CBC under K
   unfoldable pub cbc : (K iv body : List ℕ) → List ℕ
-  cbc K iv body = encipher (cbcE (E .cipher) K) (length body / 16) iv body
+  cbc K iv body = encipher (cbcE (F .cipher) K) (length body / 16) iv body
 
   -- the parts of the file of a body whose HMAC covers the bytes covered
   unfoldable pub partsOf : (passphrase salt : List ℕ) (iter : ℕ) (K L iv body covered : List ℕ) → Parts
@@ -25,12 +25,12 @@ module _ (E : Edition) where
         tag = tag;
         salt = salt;
         iter = bytesLow 4 iter;
-        check = E .stretched passphrase salt iter .check;
-        keys = wrapped (E .stretched passphrase salt iter .key) K L;
+        check = F .stretched passphrase salt iter .check;
+        keys = wrapped (F .stretched passphrase salt iter .key) K L;
         iv = iv;
         encrypted = cbc K iv body;
         marker = marker;
-        mac = E .hmac L covered;
+        mac = F .hmac L covered;
       }
 
   unfoldable pub fileOf : (passphrase salt : List ℕ) (iter : ℕ) (K L iv body covered : List ℕ) → List ℕ
@@ -47,7 +47,7 @@ module _ (E : Edition) where
     pub L-sized : Sized 32 L
     pub iv-sized : Sized 16 iv
     -- the floor
-    pub iter-floor : E .floor ≤ iter
+    pub iter-floor : F .floor ≤ iter
     -- n blocks, n at least 2; no file exceeds 4,194,304 bytes
     pub body-bytes : Bytes body
     pub body-least : 32 ≤ length body
@@ -55,7 +55,7 @@ module _ (E : Edition) where
     pub body-whole : length body % 16 ≡ 0
     -- the body is well formed, and its HMAC covers these bytes
     pub covered : List ℕ
-    pub well-formed : E .Body body covered
+    pub well-formed : F .Body body covered
     -- of the aligned blocks from offset 152 on, the first that equals the marker is the one at length - 48
     pub no-marker : (j : ℕ) → j < length body / 16 → take 16 (drop (16 * j) (cbc K iv body)) ≡ marker → ⊥
     pub is-file : file ≡ fileOf passphrase salt iter K L iv body covered

@@ -14,7 +14,8 @@ pub record Stretched : Type 0 where
   pub check : List ℕ
   pub count : ℕ
 
-pub record Edition : Type 1 where
+-- what a safe is described by
+pub record Format : Type 1 where
   -- the least ITER
   pub floor : ℕ
   -- of a passphrase, a salt and ITER
@@ -22,8 +23,13 @@ pub record Edition : Type 1 where
   -- of a key and a message
   pub hmac : List ℕ → List ℕ → List ℕ
   pub cipher : Cipher
-  -- the body is well formed, and these are the bytes that its HMAC covers; as a description, and as two functions
+  -- the body is well formed, and these are the bytes that its HMAC covers
   pub Body : List ℕ → List ℕ → Type 0
+
+-- the format, and what is computed of a body
+pub record Edition : Type 1 where
+  pub format : Format
+  -- `Body` as two functions
   pub wellFormed : List ℕ → Bool
   pub covered : List ℕ → List ℕ
   -- header fields and records
@@ -35,11 +41,11 @@ abbrev pub compressionsOf : ℕ → ℕ → ℕ
 compressionsOf passphrase iter = (passphrase + 40) / 64 + 1 + iter + 1
 
 pub record Laws (E : Edition) : Type 0 where
-  pub key-sized : (p s : List ℕ) (n : ℕ) → Sized 32 (E .stretched p s n .key)
-  pub check-sized : (p s : List ℕ) (n : ℕ) → Sized 32 (E .stretched p s n .check)
+  pub key-sized : (p s : List ℕ) (n : ℕ) → Sized 32 (E .format .stretched p s n .key)
+  pub check-sized : (p s : List ℕ) (n : ℕ) → Sized 32 (E .format .stretched p s n .check)
   pub count-is : (p s : List ℕ) (n : ℕ) → length p ≤ 1024 → length s ≡ 32 → n < 2 ^ 32
-      → E .stretched p s n .count ≡ compressionsOf (length p) n
-  pub hmac-sized : (k l : List ℕ) → Sized 32 (E .hmac k l)
-  pub ciphers : CipherLaws (E .cipher)
-  pub describes : (b : List ℕ) → Bytes b → E .wellFormed b ≡ true → E .Body b (E .covered b)
-  pub decides : (b d : List ℕ) → E .Body b d → (E .wellFormed b ≡ true) × (E .covered b ≡ d)
+      → E .format .stretched p s n .count ≡ compressionsOf (length p) n
+  pub hmac-sized : (k l : List ℕ) → Sized 32 (E .format .hmac k l)
+  pub ciphers : CipherLaws (E .format .cipher)
+  pub describes : (b : List ℕ) → Bytes b → E .wellFormed b ≡ true → E .format .Body b (E .covered b)
+  pub decides : (b d : List ℕ) → E .format .Body b d → (E .wellFormed b ≡ true) × (E .covered b ≡ d)

@@ -11,7 +11,7 @@ use Rattle.chain.specs.Modes.{ecbD, cbcD}
 use Rattle.chain.specs.Opening.{Opening, opening, step, run}
 use Rattle.file.specs.Layout.{Parts, split, tag, differ, firstMarker}
 use Rattle.file.specs.Refusals.{Test, refuse-if, deciding}
-use Rattle.file.specs.Edition.{Edition, Stretched}
+use Rattle.file.specs.Edition.{Format, Edition, Stretched}
 
 -- an answer: 0 or the number of the refusal, the keys, the counts of header fields and records, the two counts of work, and the body
 pub record Report : Type 0 where
@@ -43,7 +43,7 @@ workspaceOf n r = r .body ++ zeros (n - length (r .body))
 unfoldable pub badLength : ℕ → Bool
 badLength n = ltb n 232 || (ltb 4194304 n || not (eqb ((n - 200) % 16) 0))
 
-module _ (E : Edition) where
+module _ (F : Format) where
   -- 1 to 7: before any work, where the file has the parts p, and n blocks of body
   unfoldable pub earlyTests : Parts → ℕ → (file passphrase : List ℕ) (ceiling room : ℕ) → List Test
   earlyTests p n file passphrase ceiling room =
@@ -51,17 +51,17 @@ module _ (E : Edition) where
       ∷ refuse-if 2 (ltb 1024 (length passphrase))
       ∷ refuse-if 3 (ltb room (length file - 200))
       ∷ refuse-if 4 (differ (p .tag) tag)
-      ∷ refuse-if 5 (ltb (numberLow (p .iter)) (E .floor))
+      ∷ refuse-if 5 (ltb (numberLow (p .iter)) (F .floor))
       ∷ refuse-if 6 (ltb ceiling (numberLow (p .iter)))
       ∷ refuse-if 7 (not (eqb (firstMarker (n + 3) (drop 152 file)) n))
       ∷ []
 
   -- the two keys decrypted; then the body, whose count goes on from theirs
   unfoldable pub keysOpened : (P′ keys : List ℕ) → Opening
-  keysOpened P′ keys = run (step (ecbD (E .cipher) P′)) 4 (opening (zeros 16) keys 0)
+  keysOpened P′ keys = run (step (ecbD (F .cipher) P′)) 4 (opening (zeros 16) keys 0)
 
   unfoldable pub bodyOpened : (K iv : List ℕ) → ℕ → List ℕ → ℕ → Opening
-  bodyOpened K iv n cipher count = run (step (cbcD (E .cipher) K)) n (opening iv cipher count)
+  bodyOpened K iv n cipher count = run (step (cbcD (F .cipher) K)) n (opening iv cipher count)
 
   abbrev pub keyK : Parts → (P′ : List ℕ) → List ℕ
   keyK p P′ = take 32 (keysOpened P′ (p .keys) .done)
@@ -73,6 +73,7 @@ module _ (E : Edition) where
   abbrev pub bodyOf : Parts → (P′ : List ℕ) → ℕ → Opening
   bodyOf p P′ n = bodyOpened (keyK p P′) (p .iv) n (p .encrypted) (keysOpened P′ (p .keys) .count)
 
+module _ (E : Edition) where
   -- accepted: the keys, the two counts, and the body with the counts of its header fields and records
   unfoldable pub accepted : (K L : List ℕ) (compressions blocks : ℕ) (body : List ℕ) → Report
   accepted K L compressions blocks body =
@@ -89,7 +90,7 @@ module _ (E : Edition) where
 
   -- 9: body not well formed, or HMAC differs
   unfoldable pub bodyTests : (L mac body : List ℕ) → List Test
-  bodyTests L mac body = refuse-if 9 (not (E .wellFormed body)) ∷ refuse-if 9 (differ (E .hmac L (E .covered body)) mac) ∷ []
+  bodyTests L mac body = refuse-if 9 (not (E .wellFormed body)) ∷ refuse-if 9 (differ (E .format .hmac L (E .covered body)) mac) ∷ []
 
   -- what a decrypted body, the keys and the two counts come to; of the file it needs the HMAC alone
   unfoldable pub settled : (K L mac : List ℕ) (compressions blocks : ℕ) (body : List ℕ) → Report
@@ -100,10 +101,10 @@ module _ (E : Edition) where
   unfoldable pub checked : Parts → Stretched → ℕ → Report
   checked p s n =
       deciding (λ k. refused k (s .count) 0) (refuse-if 8 (differ (s .check) (p .check)) ∷ [])
-      (let o = bodyOf p (s .key) n in settled (keyK p (s .key)) (keyL p (s .key)) (p .mac) (s .count) (o .count) (o .done))
+      (let o = bodyOf (E .format) p (s .key) n in settled (keyK (E .format) p (s .key)) (keyL (E .format) p (s .key)) (p .mac) (s .count) (o .count) (o .done))
 
   unfoldable pub readingOf : (file passphrase : List ℕ) (ceiling room : ℕ) → Report
   readingOf file passphrase ceiling room =
       let p = split file in
       let n = (length file - 200) / 16 in
-      deciding (λ k. refused k 0 0) (earlyTests p n file passphrase ceiling room) (checked p (E .stretched passphrase (p .salt) (numberLow (p .iter))) n)
+      deciding (λ k. refused k 0 0) (earlyTests (E .format) p n file passphrase ceiling room) (checked p (E .format .stretched passphrase (p .salt) (numberLow (p .iter))) n)

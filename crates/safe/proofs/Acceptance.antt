@@ -15,7 +15,7 @@ use Rattle.file.specs.Layout.{split}
 use Rattle.file.specs.Reading.{Report, refused, workspaceOf, readingOf, Answers}
 use Rattle.file.proofs.Accepted.{Read, file-long, read-safe}
 use Rattle.file.proofs.Ends as Ends
-use Rattle.safe.specs.V3.{v3}
+use Rattle.safe.specs.V3.{v3Edition}
 use Rattle.safe.specs.declared.Reading.{Reading}
 use Rattle.safe.proofs.V3Laws.{v3-laws}
 use Rattle.safe.specs.Calls.{numberOf, Reads, Accepts}
@@ -23,19 +23,19 @@ use Rattle.safe.proofs.Contracts.{number-is, k-is, l-is}
 
 module _ {file passphrase before after : List ℕ} {ceiling : ℕ} {r : Reading} (c : Reads file passphrase ceiling before after r) where
   abbrev report : Report
-  report = readingOf v3 file passphrase ceiling (length before)
+  report = readingOf v3Edition file passphrase ceiling (length before)
 
   abbrev SafeOf : (K L body : List ℕ) → Type 0
-  SafeOf K L body = Read v3 v3-laws file passphrase ceiling (length before) (c .bytes) K L body
+  SafeOf K L body = Read v3Edition v3-laws file passphrase ceiling (length before) (c .bytes) K L body
 
   safe-of : (K L body : List ℕ) → Answers report K L body → SafeOf K L body
-  safe-of K L body a = read-safe v3 v3-laws file passphrase ceiling (length before) (c .bytes) K L body a
+  safe-of K L body a = read-safe v3Edition v3-laws file passphrase ceiling (length before) (c .bytes) K L body a
 
   pub is-read : numberOf r ≡ 0 → SafeOf (report .keyK) (report .keyL) (report .body)
   is-read h = safe-of _ _ _ (record { accepts = sym (number-is (c .reports)) ∙ h; givesK = refl; givesL = refl; givesBody = refl })
 
   long-of : (K L body : List ℕ) → SafeOf K L body → length file ≡ 200 + length body
-  long-of K L body s = file-long v3 v3-laws passphrase file (split file .salt) (numberLow (split file .iter)) K L (split file .iv) body (s .is-safe)
+  long-of K L body s = file-long v3Edition v3-laws passphrase file (split file .salt) (numberLow (split file .iter)) K L (split file .iv) body (s .is-safe)
 
   pub accepts-exactly : (K L body : List ℕ) → Accepts file before after r K L body ↔ Answers report K L body
   unfolding workspaceOf
@@ -68,5 +68,5 @@ module _ {file passphrase before after : List ℕ} {ceiling : ℕ} {r : Reading}
           let s = is-read (number-is (c .reports) ∙ eqb-true (report .number) 0 e) .is-safe in
           (ap length (k-is (c .reports)) ∙ s .K-sized .long, ap length (l-is (c .reports)) ∙ s .L-sized .long)
       go false e =
-          let d = Ends.bare v3 file passphrase ceiling (length before) (eqb-false (report .number) 0 e) in
+          let d = Ends.bare v3Edition file passphrase ceiling (length before) (eqb-false (report .number) 0 e) in
           (ap length (k-is (c .reports) ∙ ap (λ (t : Report). t .keyK) d), ap length (l-is (c .reports) ∙ ap (λ (t : Report). t .keyL) d))

@@ -24,7 +24,7 @@ use Rattle.file.specs.Reading.{refused, badLength, earlyTests, checked, reading
 use Rattle.file.specs.Writing.{badBody, clear, earlyWriteTests, writeTests, written, unwritten, writingOf, Values}
 use Rattle.file.proofs.Cases.{saved}
 use Rattle.file.proofs.Written.{write-exactly}
-use Rattle.safe.specs.V3.{v3}
+use Rattle.safe.specs.V3.{v3, v3Edition}
 use Rattle.safe.proofs.V3Laws.{v3-laws}
 
 -- a file with a tag, ITER, a body of two blocks and a marker; all else zero
@@ -39,7 +39,7 @@ abbrev other : List ℕ
 other = 0x50 ∷ 0x57 ∷ 0x53 ∷ 0x32 ∷ []
 
 abbrev number : (file : List ℕ) (passphrase ceiling room : ℕ) → ℕ
-number file passphrase ceiling room = readingOf v3 file (zeros passphrase) ceiling room .number
+number file passphrase ceiling room = readingOf v3Edition file (zeros passphrase) ceiling room .number
 
 -- (by the definition, by document 01): where later tests fail too, the first decides
 abbrev pub reads : List (ℕ × ℕ)
@@ -65,7 +65,7 @@ reads =
     ∷ []
 
 abbrev writes : (passphrase iter : ℕ) (iv body : List ℕ) (room : ℕ) → ℕ
-writes passphrase iter iv body room = writingOf v3 (zeros passphrase) (zeros 32) iter (zeros 32) (zeros 32) iv body room .number
+writes passphrase iter iv body room = writingOf v3Edition (zeros passphrase) (zeros 32) iter (zeros 32) (zeros 32) iv body room .number
 
 abbrev pub writings : List (ℕ × ℕ)
 writings =
@@ -82,7 +82,7 @@ unfolding numberLow same v3 split tag marker firstMarker refused badLength early
 cases = (refl, refl)
 
 -- a file that another program saved, under its passphrase "a": with a ceiling equal to ITER and room for its five blocks none of 1 to 7
-pub saved-passes : readingOf v3 saved (0x61 ∷ []) 2048 80 ≡ checked v3 (split saved) (v3 .stretched (0x61 ∷ []) (split saved .salt) 2048) 5
+pub saved-passes : readingOf v3Edition saved (0x61 ∷ []) 2048 80 ≡ checked v3Edition (split saved) (v3 .stretched (0x61 ∷ []) (split saved .salt) 2048) 5
 unfolding numberLow bytesLow bytesHigh same v3 split tag marker firstMarker badLength earlyTests readingOf
 saved-passes = refl
 
@@ -106,5 +106,5 @@ a-safe =
       iv-sized = sized-zeros 16;
       body-bytes = least-bytes;
     } in
-    let w = write-exactly v3 v3-laws (zeros 1024) (zeros 32) 2048 (zeros 32) (zeros 32) (zeros 16) least 232 values .0 (marked .1) in
+    let w = write-exactly v3Edition v3-laws (zeros 1024) (zeros 32) 2048 (zeros 32) (zeros 32) (zeros 16) least 232 values .0 (marked .1) in
     (w .0, w .1)

@@ -1,8 +1,9 @@
 -- The demands upon reading and writing, each under the sentence that asks for it. A call is taken by its contract alone (`Reads` and `Writes`, Calls.antt), so what
--- is said of a call holds of every answer and every memory that meet it. `readingOf v3` and `writingOf v3` are the reports that these contracts cite.
+-- is said of a call holds of every answer and every memory that meet it. `readingOf v3Edition` and `writingOf v3Edition` are the reports that these contracts cite.
 use Prim.Native.Nat.{ℕ, _+_, _-_, _/_, _<_, _≤_}
 use mathlib.Core.Path.{_≡_, refl, sym, ap, _∙_, subst}
 use mathlib.Core.Logic.{_↔_}
+use mathlib.Core.Bool.{Bool, true, false}
 use mathlib.Core.List.{List, [], _∷_, _++_, map}
 use native.Mathlib.Omega.{arith}
 use lib.ListN.{length, take, drop}
@@ -16,7 +17,8 @@ use Rattle.chain.specs.Modes.{ecbE, cbcE, cbcD, encipher, decipher}
 use Rattle.chain.specs.Twofish.{twofishCipher}
 use Rattle.body.specs.Sections.{covered}
 use Rattle.body.specs.WellFormed.{WellFormed}
-use Rattle.body.proofs.Decided.{counts-are}
+use Rattle.body.specs.Decision.{wellFormed}
+use Rattle.body.proofs.Decided.{counts-are, well-formed}
 use Rattle.file.specs.Layout.{split, join, glue, listed, tag, marker}
 use Rattle.file.specs.Refusals.{Test, First}
 use Rattle.file.specs.Description.{IsSafe, wrapped, cbc, partsOf, fileOf}
@@ -29,7 +31,7 @@ use Rattle.file.proofs.Alike.{count-opened, compressed, matched, alike-matched,
 use Rattle.file.proofs.Ends as Ends
 use Rattle.file.proofs.Nine.{nine}
 use Rattle.file.proofs.Prefix.{no-prefix}
-use Rattle.safe.specs.V3.{v3, stretchedV3}
+use Rattle.safe.specs.V3.{v3, v3Edition, stretchedV3}
 use Rattle.safe.specs.Answers.{headerCount, recordCount, writtenNumber, reported}
 use Rattle.safe.specs.Steps.{Decrypts, Settles}
 use Rattle.safe.specs.declared.decrypt.Keys.{Keys}
@@ -43,6 +45,13 @@ use Rattle.safe.proofs.Settled.{same-answer, state-held}
 use Rattle.safe.proofs.Stretching.{matching}
 use Rattle.safe.proofs.Instances.{thirteen, instances, below-floor}
 
+-- two tests that hold of the same
+true-alike : (a b : Bool) → (a ≡ true → b ≡ true) × (b ≡ true → a ≡ true) → a ≡ b
+true-alike true true h = refl
+true-alike true false h = sym (h .0 refl)
+true-alike false true h = h .1 refl
+true-alike false false h = refl
+
 -- none of 1 to 7
 late : {n : ℕ} → (OneToSeven n → ⊥) → Late n
 late h k a b e = h (omega arith, omega arith)
@@ -51,11 +60,11 @@ late h k a b e = h (omega arith, omega arith)
 -- every workspace byte zero, for 3 too.
 
 -- of the report, where `refused` has its number and the two counts of work, and all else zero
-demand1 : (file passphrase : List ℕ) (ceiling room : ℕ) → let t = readingOf v3 file passphrase ceiling room in
+demand1 : (file passphrase : List ℕ) (ceiling room : ℕ) → let t = readingOf v3Edition file passphrase ceiling room in
     (t .number ≤ 9) × ((t .number ≡ 0 → ⊥) → (t ≡ refused (t .number) (t .compressions) (t .blocks)) × (workspaceOf room t ≡ zeros room))
 demand1 file passphrase ceiling room = (
-  Ends.nine-most v3 file passphrase ceiling room,
-  λ h. (Ends.bare v3 file passphrase ceiling room h, Ends.zeros-left v3 file passphrase ceiling room h),
+  Ends.nine-most v3Edition file passphrase ceiling room,
+  λ h. (Ends.bare v3Edition file passphrase ceiling room h, Ends.zeros-left v3Edition file passphrase ceiling room h),
 )
 
 -- of every call of `read`
@@ -79,7 +88,7 @@ module _ {file passphrase before after : List ℕ} {ceiling : ℕ} {r : Reading}
 pub demand1-write : {passphrase salt : List ℕ} {iter : ℕ} {K L iv body before after : List ℕ} {r : Written} → Writes passphrase salt iter K L iv body before after r
     → (writtenNumber r ≡ 0 → ⊥) → after ≡ zeros (length before)
 demand1-write {passphrase} {salt} {iter} {K} {L} {iv} {body} {before} c h =
-    c .output ∙ Ends.write-told v3 passphrase salt iter K L iv body (length before) (λ e. h (c .number ∙ e)) .1
+    c .output ∙ Ends.write-told v3Edition passphrase salt iter K L iv body (length before) (λ e. h (c .number ∙ e)) .1
 
 -- ==== DEMAND 2. The reader accepts exactly the files that the format describes.
 
@@ -107,9 +116,9 @@ unfolding v3 stretchedV3 fileOf partsOf join listed wrapped cbc
 file-described {passphrase} {file} {salt} {iter} z = rw (← (step-key (stretchedOf iter (startOf passphrase salt)))) (z .is-file)
 
 -- Accepted with K, L and a body exactly when the file is a safe of that body with those keys, ITER is at most the ceiling and the workspace holds the body.
-demand2 : (file passphrase : List ℕ) (ceiling room : ℕ) → Bytes file → (K L body : List ℕ) → Answers (readingOf v3 file passphrase ceiling room) K L body
+demand2 : (file passphrase : List ℕ) (ceiling room : ℕ) → Bytes file → (K L body : List ℕ) → Answers (readingOf v3Edition file passphrase ceiling room) K L body
     ↔ ((salt : List ℕ) × (iter : ℕ) × (iv : List ℕ) × IsSafe v3 passphrase file salt iter K L iv body × (iter ≤ ceiling) × (length body ≤ room))
-demand2 file passphrase ceiling room bytes K L body = Accepted.demand2 v3 v3-laws file passphrase ceiling room bytes K L body
+demand2 file passphrase ceiling room bytes K L body = Accepted.demand2 v3Edition v3-laws file passphrase ceiling room bytes K L body
 
 -- So a call's number is 0 exactly when the file is a safe of some body, with some values, ITER is at most the ceiling and the workspace holds the body.
 pub demand2-accepted : {file passphrase before after : List ℕ} {ceiling : ℕ} {r : Reading} → Reads file passphrase ceiling before after r
@@ -137,10 +146,10 @@ module _ {file passphrase before after : List ℕ} {ceiling : ℕ} {r : Reading}
   unfolding v3
   demand2-counts h w =
       let a = accepts-exactly c K L body .0 h in
-      let f = Ends.fields-counted v3 file passphrase ceiling (length before) (a .accepts) in
+      let f = Ends.fields-counted v3Edition file passphrase ceiling (length before) (a .accepts) in
       let n = counts-are body w in (
-        headers-are (c .reports) ∙ f .0 ∙ ap (v3 .headers) (a .givesBody) ∙ n .0,
-        records-are (c .reports) ∙ f .1 ∙ ap (v3 .records) (a .givesBody) ∙ n .1,
+        headers-are (c .reports) ∙ f .0 ∙ ap (v3Edition .headers) (a .givesBody) ∙ n .0,
+        records-are (c .reports) ∙ f .1 ∙ ap (v3Edition .records) (a .givesBody) ∙ n .1,
       )
 
   -- Writing an accepted file's body again with its own passphrase, salt, ITER, keys and initial vector, into an output that holds it, gives the same file,
@@ -151,63 +160,63 @@ module _ {file passphrase before after : List ℕ} {ceiling : ℕ} {r : Reading}
   unfolding split
   demand2-again h {output} w fits =
       let a = accepts-exactly c K L body .0 h in
-      let e = Written.write-again v3 v3-laws file passphrase ceiling (length before) (c .bytes) K L body a (length output) fits in
+      let e = Written.write-again v3Edition v3-laws file passphrase ceiling (length before) (c .bytes) K L body a (length output) fits in
       (w .number ∙ ap (λ (x : Writing). x .number) e, w .output ∙ ap (λ (x : Writing). x .output) e)
 
 module _ {passphrase salt : List ℕ} {iter : ℕ} {K L iv body before after : List ℕ} {r : Written} (c : Writes passphrase salt iter K L iv body before after r) where
   -- The writer accepts exactly what is a safe of some file and fits; and then the output is that file, and zeros to its end.
   pub demand2-written : (writtenNumber r ≡ 0) ↔ ((file : List ℕ) × IsSafe v3 passphrase file salt iter K L iv body × (length body + 200 ≤ length before))
   demand2-written =
-      let e = Written.write-exactly v3 v3-laws passphrase salt iter K L iv body (length before) (c .values) in
+      let e = Written.write-exactly v3Edition v3-laws passphrase salt iter K L iv body (length before) (c .values) in
       (λ h. e .0 (sym (c .number) ∙ h), λ z. c .number ∙ e .1 z)
 
   module _ (h : writtenNumber r ≡ 0) where
     pub demand2-output : (file : List ℕ) → IsSafe v3 passphrase file salt iter K L iv body → after ≡ file ++ zeros (length before - (length body + 200))
     demand2-output file z =
-        c .output ∙ Written.output-is v3 v3-laws passphrase salt iter K L iv body (length before) (c .values) (sym (c .number) ∙ h)
-        ∙ ap (λ (f : List ℕ). f ++ zeros (length before - (length body + 200))) (sym (Written.file-of v3 v3-laws z))
+        c .output ∙ Written.output-is v3Edition v3-laws passphrase salt iter K L iv body (length before) (c .values) (sym (c .number) ∙ h)
+        ∙ ap (λ (f : List ℕ). f ++ zeros (length before - (length body + 200))) (sym (Written.file-of v3Edition v3-laws z))
 
     -- What the writer accepts is read back under the same passphrase, any ceiling not below ITER and any workspace that holds it: same body, same keys.
     pub demand2-back : {ceiling : ℕ} {space space′ : List ℕ} {r′ : Reading} → Reads (take (length body + 200) after) passphrase ceiling space space′ r′
         → iter ≤ ceiling → length body ≤ length space → Accepts (take (length body + 200) after) space space′ r′ K L body
     demand2-back {ceiling} {space} d under fits =
         accepts-exactly d K L body .1
-        (subst (λ (o : List ℕ). Answers (readingOf v3 (take (length body + 200) o) passphrase ceiling (length space)) K L body) (sym (c .output))
-        (Written.read-back v3 v3-laws passphrase salt iter K L iv body (length before) (c .values) (sym (c .number) ∙ h) ceiling (length space) under fits))
+        (subst (λ (o : List ℕ). Answers (readingOf v3Edition (take (length body + 200) o) passphrase ceiling (length space)) K L body) (sym (c .output))
+        (Written.read-back v3Edition v3-laws passphrase salt iter K L iv body (length before) (c .values) (sym (c .number) ∙ h) ceiling (length space) under fits))
 
 -- No proper prefix of an accepted file is accepted, under any passphrase, ceiling and workspace: a half-copied file is never taken for a whole one.
 pub demand2-prefix : {file passphrase passphrase′ before before′ after after′ : List ℕ} {ceiling ceiling′ k : ℕ} {r r′ : Reading}
     → Reads file passphrase ceiling before after r → numberOf r ≡ 0 → k < length file
     → Reads (take k file) passphrase′ ceiling′ before′ after′ r′ → numberOf r′ ≡ 0 → ⊥
-demand2-prefix c h short c′ h′ = no-prefix v3 v3-laws _ _ _ _ _ _ _ _ _ _ _ _ _ _ _ _ (is-read c h .is-safe) short (is-read c′ h′ .is-safe)
+demand2-prefix c h short c′ h′ = no-prefix v3Edition v3-laws _ _ _ _ _ _ _ _ _ _ _ _ _ _ _ _ (is-read c h .is-safe) short (is-read c′ h′ .is-safe)
 
 -- A file and a passphrase are a safe of one body only, under one set of values.
 pub demand2-only : (passphrase file : List ℕ) (salt salt′ : List ℕ) (iter iter′ : ℕ) (K K′ L L′ iv iv′ body body′ : List ℕ)
     → IsSafe v3 passphrase file salt iter K L iv body → IsSafe v3 passphrase file salt′ iter′ K′ L′ iv′ body′
     → (salt ≡ salt′) × (iter ≡ iter′) × (K ≡ K′) × (L ≡ L′) × (iv ≡ iv′) × (body ≡ body′)
-demand2-only = Accepted.only-safe v3 v3-laws
+demand2-only = Accepted.only-safe v3Edition v3-laws
 
 -- ==== DEMAND 3. Two readings with equal lengths of file, passphrase and workspace and equal ITER, neither stopped by 1 to 7. Contents of the files, keys,
 -- plaintext, ceilings and old workspace bytes are free.
 module _ (file file′ passphrase passphrase′ : List ℕ) (ceiling ceiling′ room : ℕ) (bytes : Bytes file) (bytes′ : Bytes file′)
     (files : length file ≡ length file′) (passphrases : length passphrase ≡ length passphrase′) (iters : iterIn file ≡ iterIn file′)
-    (past : OneToSeven (readingOf v3 file passphrase ceiling room .number) → ⊥) (past′ : OneToSeven (readingOf v3 file′ passphrase′ ceiling′ room .number) → ⊥) where
+    (past : OneToSeven (readingOf v3Edition file passphrase ceiling room .number) → ⊥) (past′ : OneToSeven (readingOf v3Edition file′ passphrase′ ceiling′ room .number) → ⊥) where
   -- If both passphrases match their checks (SHA-256 of P' equal to the file's bytes 40 to 71) and both are refused, the reports are equal: number, both
   -- reported counts, and so the workspace.
   demand3-matching : Matching passphrase file → Matching passphrase′ file′
-      → (readingOf v3 file passphrase ceiling room .number ≡ 0 → ⊥) → (readingOf v3 file′ passphrase′ ceiling′ room .number ≡ 0 → ⊥)
-      → readingOf v3 file passphrase ceiling room ≡ readingOf v3 file′ passphrase′ ceiling′ room
+      → (readingOf v3Edition file passphrase ceiling room .number ≡ 0 → ⊥) → (readingOf v3Edition file′ passphrase′ ceiling′ room .number ≡ 0 → ⊥)
+      → readingOf v3Edition file passphrase ceiling room ≡ readingOf v3Edition file′ passphrase′ ceiling′ room
   unfolding split
   demand3-matching m m′ n n′ =
-      alike-matched v3 v3-laws file file′ passphrase passphrase′ ceiling ceiling′ room bytes bytes′ (late past) (late past′) files passphrases iters
+      alike-matched v3Edition v3-laws file file′ passphrase passphrase′ ceiling ceiling′ room bytes bytes′ (late past) (late past′) files passphrases iters
       (matching passphrase file .0 m) (matching passphrase′ file′ .0 m′) n n′
 
   -- The same if neither matches.
   demand3-unmatching : (Matching passphrase file → ⊥) → (Matching passphrase′ file′ → ⊥)
-      → readingOf v3 file passphrase ceiling room ≡ readingOf v3 file′ passphrase′ ceiling′ room
+      → readingOf v3Edition file passphrase ceiling room ≡ readingOf v3Edition file′ passphrase′ ceiling′ room
   unfolding split
   demand3-unmatching m m′ =
-      alike-unmatched v3 v3-laws file file′ passphrase passphrase′ ceiling ceiling′ room bytes bytes′ (late past) (late past′) files passphrases iters
+      alike-unmatched v3Edition v3-laws file file′ passphrase passphrase′ ceiling ceiling′ room bytes bytes′ (late past) (late past′) files passphrases iters
       (λ e. m (matching passphrase file .1 e)) (λ e. m′ (matching passphrase′ file′ .1 e))
 
 -- The same of every two calls: the whole answer and the workspace.
@@ -221,21 +230,21 @@ module _ {file file′ passphrase passphrase′ before before′ after after′ 
       (demand3-matching file file′ passphrase passphrase′ ceiling ceiling′ (length before) (c .bytes) (c′ .bytes) files passphrases iters
       (rw (number-is (c .reports)) at past) (rw (workspaces, ← (number-is (c′ .reports))) past′) m m′
       (rw (number-is (c .reports)) at n) (rw (workspaces, ← (number-is (c′ .reports))) n′)
-      ∙ ap (readingOf v3 file′ passphrase′ ceiling′) workspaces) workspaces
+      ∙ ap (readingOf v3Edition file′ passphrase′ ceiling′) workspaces) workspaces
 
   pub demand3-call-unmatching : (Matching passphrase file → ⊥) → (Matching passphrase′ file′ → ⊥) → (r ≡ r′) × (after ≡ after′)
   demand3-call-unmatching m m′ =
       one-report (c .reports) (c′ .reports)
       (demand3-unmatching file file′ passphrase passphrase′ ceiling ceiling′ (length before) (c .bytes) (c′ .bytes) files passphrases iters
       (rw (number-is (c .reports)) at past) (rw (workspaces, ← (number-is (c′ .reports))) past′) m m′
-      ∙ ap (readingOf v3 file′ passphrase′ ceiling′) workspaces) workspaces
+      ∙ ap (readingOf v3Edition file′ passphrase′ ceiling′) workspaces) workspaces
 
 module _ {file passphrase before after : List ℕ} {ceiling : ℕ} {r : Reading} (c : Reads file passphrase ceiling before after r) where
   abbrev room : ℕ
   room = length before
 
   abbrev t : Report
-  t = readingOf v3 file passphrase ceiling room
+  t = readingOf v3Edition file passphrase ceiling room
 
   abbrev early-tests : List Test
   early-tests = earlyTests v3 (split file) (blocksIn file) file passphrase ceiling room
@@ -250,32 +259,32 @@ module _ {file passphrase before after : List ℕ} {ceiling : ℕ} {r : Reading}
   -- They are 0 for refusals 1 to 7.
   pub counts-stopped : OneToSeven (numberOf r) → (r .compressions ≡ 0) × (r .blocks ≡ 0)
   counts-stopped =
-      told (λ n a b. OneToSeven n → (a ≡ 0) × (b ≡ 0)) (λ h. Ends.early-counts v3 file passphrase ceiling room (h .0) (h .1))
+      told (λ n a b. OneToSeven n → (a ≡ 0) × (b ≡ 0)) (λ h. Ends.early-counts v3Edition file passphrase ceiling room (h .0) (h .1))
 
   -- The first is otherwise c + ITER + 1, with c = (passphrase length + 40) / 64 rounded down, plus 1.
   pub counts-compressions : (OneToSeven (numberOf r) → ⊥) → r .compressions ≡ (length passphrase + 40) / 64 + 1 + iterIn file + 1
   unfolding split
   counts-compressions =
       told (λ n a b. (OneToSeven n → ⊥) → a ≡ (length passphrase + 40) / 64 + 1 + iterIn file + 1)
-      (λ past. Ends.compressions-held v3 file passphrase ceiling room (late past) ∙ compressed v3 v3-laws file passphrase ceiling room (c .bytes) (late past))
+      (λ past. Ends.compressions-held v3Edition file passphrase ceiling room (late past) ∙ compressed v3Edition v3-laws file passphrase ceiling room (c .bytes) (late past))
 
   -- It is the count that the last step, the check's, hands on.
   pub counts-handed : (OneToSeven (numberOf r) → ⊥) → r .compressions ≡ stepOf (stretchedOf (iterIn file) (startOf passphrase (saltIn file))) .count
   unfolding v3 stretchedV3 split
   counts-handed =
       told (λ n a b. (OneToSeven n → ⊥) → a ≡ stepOf (stretchedOf (iterIn file) (startOf passphrase (saltIn file))) .count)
-      (λ past. Ends.compressions-held v3 file passphrase ceiling room (late past))
+      (λ past. Ends.compressions-held v3Edition file passphrase ceiling room (late past))
 
   -- The second is 0 for refusal 8,
   pub counts-eight : numberOf r ≡ 8 → r .blocks ≡ 0
-  counts-eight = told (λ n a b. n ≡ 8 → b ≡ 0) (Ends.eight-blocks v3 file passphrase ceiling room)
+  counts-eight = told (λ n a b. n ≡ 8 → b ≡ 0) (Ends.eight-blocks v3Edition file passphrase ceiling room)
 
   -- else 4 + n.
   pub counts-blocks : (OneToSeven (numberOf r) → ⊥) → (numberOf r ≡ 8 → ⊥) → r .blocks ≡ 4 + blocksIn file
   counts-blocks =
       told (λ n a b. (OneToSeven n → ⊥) → (n ≡ 8 → ⊥) → b ≡ 4 + blocksIn file)
-      (λ past checked. Ends.blocks-held v3 file passphrase ceiling room (late past) checked
-      ∙ count-opened v3 v3-laws (split file) (v3 .stretched passphrase (saltIn file) (iterIn file) .key) (blocksIn file))
+      (λ past checked. Ends.blocks-held v3Edition file passphrase ceiling room (late past) checked
+      ∙ count-opened v3Edition v3-laws (split file) (v3 .stretched passphrase (saltIn file) (iterIn file) .key) (blocksIn file))
 
   -- The report is the count that the last step hands on, and nothing else sets it or adds to it; unless the reading ends in 1 to 8, the state it belongs to, before any
   -- zeroing, is the whole body decrypted: whatever meets the contract of `decrypt` hands on a memory, keys and a count, and whatever meets that of `settle` makes of them
@@ -297,26 +306,26 @@ module _ {file passphrase before after : List ℕ} {ceiling : ℕ} {r : Reading}
   pub ceiling-below : ceiling < 2048 → numberOf r ≡ 0 → ⊥
   unfolding v3
   ceiling-below h =
-      told (λ n a b. n ≡ 0 → ⊥) (λ e. absurd (let f = Ends.floor-under v3 file passphrase ceiling room e in omega arith))
+      told (λ n a b. n ≡ 0 → ⊥) (λ e. absurd (let f = Ends.floor-under v3Edition file passphrase ceiling room e in omega arith))
 
   pub ceiling-reached : iterIn file ≤ ceiling → numberOf r ≡ 6 → ⊥
   unfolding split
-  ceiling-reached h = told (λ n a b. n ≡ 6 → ⊥) (Ends.under-ceiling v3 file passphrase ceiling room h)
+  ceiling-reached h = told (λ n a b. n ≡ 6 → ⊥) (Ends.under-ceiling v3Edition file passphrase ceiling room h)
 
   -- ==== ORDER. Reading and writing by rising number, as far as each uses it.
   pub reading-numbers : map (λ (x : Test). x .number) early-tests ≡ 1 ∷ 2 ∷ 3 ∷ 4 ∷ 5 ∷ 6 ∷ 7 ∷ []
-  reading-numbers = Ends.early-numbers v3 file passphrase ceiling room
+  reading-numbers = Ends.early-numbers v3Edition file passphrase ceiling room
 
   -- A number of 1 to 7 is that of the first test that fails;
   pub reading-first : (k : ℕ) → 1 ≤ k → k ≤ 7 → (numberOf r ≡ k) ↔ First k early-tests
-  reading-first k from to = told (λ n a b. (n ≡ k) ↔ First k early-tests) (Ends.first-fails v3 file passphrase ceiling room k from to)
+  reading-first k from to = told (λ n a b. (n ≡ k) ↔ First k early-tests) (Ends.first-fails v3Edition file passphrase ceiling room k from to)
 
   -- past these, 8 is given exactly when SHA-256 of P' differs;
   pub reading-eight : (OneToSeven (numberOf r) → ⊥) → (numberOf r ≡ 8) ↔ (Matching passphrase file → ⊥)
   reading-eight =
       told (λ n a b. (OneToSeven n → ⊥) → (n ≡ 8) ↔ (Matching passphrase file → ⊥))
       (λ past.
-      let e = Ends.eight-exactly v3 file passphrase ceiling room (late past) in
+      let e = Ends.eight-exactly v3Edition file passphrase ceiling room (late past) in
       (λ h m. e .0 h (matching passphrase file .0 m), λ h. e .1 λ m. h (matching passphrase file .1 m)))
 
   -- and past that, 9 exactly when the body is not well formed, or its HMAC differs.
@@ -327,7 +336,7 @@ module _ {file passphrase before after : List ℕ} {ceiling : ℕ} {r : Reading}
       told (λ n a b. (OneToSeven n → ⊥) → Matching passphrase file
       → (n ≡ 9) ↔ ((w : WellFormed (lastState passphrase file .done)) → hmacOf (keyLIn passphrase file) (covered (w .fields)) ≡ macIn file → ⊥))
       (λ past m.
-      let e = nine v3 v3-laws file passphrase ceiling room (c .bytes) (late past) (matching passphrase file .0 m) in
+      let e = nine v3Edition v3-laws file passphrase ceiling room (c .bytes) (late past) (matching passphrase file .0 m) in
       (λ h w q. e .0 h (covered (w .fields), (w, refl), q), λ h. e .1 λ d. h (d .1 .0) (ap (hmacOf (keyLIn passphrase file)) (d .1 .1) ∙ d .2)))
 
   -- So whatever is past 1 to 8 and not accepted is 9.
@@ -336,17 +345,21 @@ module _ {file passphrase before after : List ℕ} {ceiling : ℕ} {r : Reading}
   reading-else =
       told (λ n a b. (OneToSeven n → ⊥) → Matching passphrase file → (n ≡ 0 → ⊥) → n ≡ 9)
       (λ past m n. ap (λ (u : Report). u .number)
-      (matched v3 v3-laws file passphrase ceiling room (c .bytes) (late past) (matching passphrase file .0 m) n))
+      (matched v3Edition v3-laws file passphrase ceiling room (c .bytes) (late past) (matching passphrase file .0 m) n))
 
 module _ {passphrase salt : List ℕ} {iter : ℕ} {K L iv body before after : List ℕ} {r : Written} (c : Writes passphrase salt iter K L iv body before after r) where
-  abbrev write-tests : List Test
-  write-tests = writeTests v3 passphrase iter K iv body (length before)
+  -- the tests, of a body that is well formed or not
+  abbrev write-tests : Bool → List Test
+  write-tests good = writeTests v3 good passphrase iter K iv body (length before)
 
-  pub writing-numbers : map (λ (x : Test). x .number) write-tests ≡ 1 ∷ 2 ∷ 3 ∷ 5 ∷ 9 ∷ 10 ∷ []
-  writing-numbers = Ends.write-numbers v3 passphrase salt iter K L iv body (length before)
+  pub writing-numbers : (good : Bool) → map (λ (x : Test). x .number) (write-tests good) ≡ 1 ∷ 2 ∷ 3 ∷ 5 ∷ 9 ∷ 10 ∷ []
+  writing-numbers good = Ends.write-numbers v3 good passphrase iter K iv body (length before)
 
-  pub writing-first : (k : ℕ) → 1 ≤ k → (writtenNumber r ≡ k) ↔ First k write-tests
-  writing-first k from = rw (c .number) (Ends.write-fails v3 passphrase salt iter K L iv body (length before) k from)
+  pub writing-first : (good : Bool) → ((good ≡ true) ↔ WellFormed body) → (k : ℕ) → 1 ≤ k → (writtenNumber r ≡ k) ↔ First k (write-tests good)
+  writing-first good is-good k from =
+      let w = well-formed body (c .values .body-bytes) in
+      let same = true-alike good (wellFormed body) (λ h. w .1 (is-good .0 h), λ h. is-good .1 (w .0 h)) in
+      rw (c .number, same) (Ends.write-fails v3Edition passphrase salt iter K L iv body (length before) k from)
 
 -- ==== NO SECOND ANSWER. Each public call's contract determines its answer and its lent memory afterwards for every input: no second answer satisfies it.
 pub one-read : {file passphrase : List ℕ} {ceiling : ℕ} {before after after′ : List ℕ} {r r′ : Reading}

@@ -16,7 +16,7 @@ use Rattle.file.specs.Layout.{split, tag, differ}
 use Rattle.file.specs.Refusals.{Test, First, here, later}
 use Rattle.file.specs.Reading.{Report, refused, badLength, earlyTests, readingOf}
 use Rattle.file.proofs.Passed.{refused-first}
-use Rattle.safe.specs.V3.{v3}
+use Rattle.safe.specs.V3.{v3, v3Edition}
 use Rattle.safe.specs.Calls.{OneToFour}
 
 -- (by the definitions, by document 01), for passphrases a, b and c and a salt
@@ -52,15 +52,15 @@ instances a b c salt la lb lc ls =
 
 -- ITER 2,047 is refusal 5 unless one of 1 to 4 comes first: the tests before it are passed, one after the other.
 module _ (file passphrase : List ℕ) (ceiling room : ℕ) (iter : take 4 (drop 36 file) ≡ 0xFF ∷ 0x07 ∷ 0x00 ∷ 0x00 ∷ [])
-    (past : OneToFour (readingOf v3 file passphrase ceiling room .number) → ⊥) where
+    (past : OneToFour (readingOf v3Edition file passphrase ceiling room .number) → ⊥) where
   abbrev tests : List Test
   tests = earlyTests v3 (split file) ((length file - 200) / 16) file passphrase ceiling room
 
-  number : (k : ℕ) → First k tests → readingOf v3 file passphrase ceiling room .number ≡ k
+  number : (k : ℕ) → First k tests → readingOf v3Edition file passphrase ceiling room .number ≡ k
   unfolding refused
-  number k f = ap (λ (t : Report). t .number) (refused-first v3 file passphrase ceiling room k f)
+  number k f = ap (λ (t : Report). t .number) (refused-first v3Edition file passphrase ceiling room k f)
 
-  pub below-floor : readingOf v3 file passphrase ceiling room .number ≡ 5
+  pub below-floor : readingOf v3Edition file passphrase ceiling room .number ≡ 5
   unfolding earlyTests split v3 numberLow
   below-floor = one (badLength (length file)) refl
     where
@@ -68,19 +68,19 @@ module _ (file passphrase : List ℕ) (ceiling room : ℕ) (iter : take 4 (drop 
       no k f a b = let e = number k f in past (omega arith, omega arith)
 
       four : badLength (length file) ≡ false → ltb 1024 (length passphrase) ≡ false → ltb room (length file - 200) ≡ false
-          → (b : Bool) → differ (take 4 file) tag ≡ b → readingOf v3 file passphrase ceiling room .number ≡ 5
+          → (b : Bool) → differ (take 4 file) tag ≡ b → readingOf v3Edition file passphrase ceiling room .number ≡ 5
       four t1 t2 t3 true h = absurd (no 4 (later t1 (later t2 (later t3 (here refl h)))) (omega arith) (omega arith))
       four t1 t2 t3 false h = number 5 (later t1 (later t2 (later t3 (later h (here refl (ap (λ (l : List ℕ). ltb (numberLow l) 2048) iter))))))
 
       three : badLength (length file) ≡ false → ltb 1024 (length passphrase) ≡ false
-          → (b : Bool) → ltb room (length file - 200) ≡ b → readingOf v3 file passphrase ceiling room .number ≡ 5
+          → (b : Bool) → ltb room (length file - 200) ≡ b → readingOf v3Edition file passphrase ceiling room .number ≡ 5
       three t1 t2 true h = absurd (no 3 (later t1 (later t2 (here refl h))) (omega arith) (omega arith))
       three t1 t2 false h = four t1 t2 h (differ (take 4 file) tag) refl
 
-      two : badLength (length file) ≡ false → (b : Bool) → ltb 1024 (length passphrase) ≡ b → readingOf v3 file passphrase ceiling room .number ≡ 5
+      two : badLength (length file) ≡ false → (b : Bool) → ltb 1024 (length passphrase) ≡ b → readingOf v3Edition file passphrase ceiling room .number ≡ 5
       two t1 true h = absurd (no 2 (later t1 (here refl h)) (omega arith) (omega arith))
       two t1 false h = three t1 h (ltb room (length file - 200)) refl
 
-      one : (b : Bool) → badLength (length file) ≡ b → readingOf v3 file passphrase ceiling room .number ≡ 5
+      one : (b : Bool) → badLength (length file) ≡ b → readingOf v3Edition file passphrase ceiling room .number ≡ 5
       one true h = absurd (no 1 (here refl h) (omega arith) (omega arith))
       one false h = two h (ltb 1024 (length passphrase)) refl

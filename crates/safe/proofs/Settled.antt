@@ -18,7 +18,7 @@ use Rattle.file.proofs.Passed.{Late, Early, early, passed-early}
 use Rattle.file.proofs.Accepted.{good-length}
 use Rattle.file.proofs.Ends as Ends
 use Rattle.file.proofs.Decrypted.{whole-body}
-use Rattle.safe.specs.V3.{v3, stretchedV3}
+use Rattle.safe.specs.V3.{v3, v3Edition, stretchedV3}
 use Rattle.safe.specs.Answers.{reported}
 use Rattle.safe.specs.Calls.{saltIn, iterIn, ivIn, encryptedIn, macIn, blocksIn, stretchedIn, keyKIn, keyLIn, lastState, numberOf, Reports, Reads}
 use Rattle.safe.specs.Steps.{Decrypts, Settles, settledUnder, openedBy}
@@ -30,7 +30,7 @@ use Rattle.safe.proofs.Verdicts.{reports-as, checked-passed, checked-fa
 
 module _ {file passphrase before after : List ℕ} {ceiling : ℕ} {r : Reading} (c : Reads file passphrase ceiling before after r) (late : Late (numberOf r)) (checked : numberOf r ≡ 8 → ⊥) where
   abbrev t : Report
-  t = readingOf v3 file passphrase ceiling (length before)
+  t = readingOf v3Edition file passphrase ceiling (length before)
 
   abbrev s : Stretched
   s = stretchedV3 passphrase (saltIn file) (iterIn file)
@@ -38,12 +38,12 @@ module _ {file passphrase before after : List ℕ} {ceiling : ℕ} {r : Reading}
   late-report : Late (t .number)
   late-report = subst Late (number-is (c .reports)) late
 
-  passed : Early v3 (split file) (blocksIn file) file passphrase ceiling (length before)
-  passed = early v3 file passphrase ceiling (length before) late-report
+  passed : Early v3Edition (split file) (blocksIn file) file passphrase ceiling (length before)
+  passed = early v3Edition file passphrase ceiling (length before) late-report
 
   is-opened : t ≡ openedBy passphrase file
   unfolding v3
-  is-opened = passed-early v3 file passphrase ceiling (length before) passed
+  is-opened = passed-early v3Edition file passphrase ceiling (length before) passed
 
   is-settled : t ≡ settledUnder file (s .key) (s .count)
   unfolding refused
@@ -61,7 +61,7 @@ module _ {file passphrase before after : List ℕ} {ceiling : ℕ} {r : Reading}
   memory₀ = lastState passphrase file .done
 
   abbrev report : Report
-  report = settled v3 (keys₀ .k) (keys₀ .l) (macIn file) (s .count) (keys₀ .count) memory₀
+  report = settled v3Edition (keys₀ .k) (keys₀ .l) (macIn file) (s .count) (keys₀ .count) memory₀
 
   -- whatever meets the contract of `decrypt`, and then that of `settle`
   module _ {memory left : List ℕ} {keys : Keys} {r′ : Reading} (d : Decrypts file (stretchedIn passphrase file) memory keys)
@@ -73,7 +73,7 @@ module _ {file passphrase before after : List ℕ} {ceiling : ℕ} {r : Reading}
     pub same-answer : (r ≡ r′) × (after ≡ left ++ zeros (length before - length memory))
     unfolding v3 stretchedV3
     same-answer =
-        let w = whole-body v3 v3-laws file (stretchedIn passphrase file) (d .bytes) (key-sized (stretchedOf (iterIn file) (startOf passphrase (saltIn file)))) (d .whole) in
+        let w = whole-body v3Edition v3-laws file (stretchedIn passphrase file) (d .bytes) (key-sized (stretchedOf (iterIn file) (startOf passphrase (saltIn file)))) (d .whole) in
         let u : Reports report before after r = reports-as (sym is-settled) (c .reports) in
         let parts = settled-parts (keys₀ .k) (keys₀ .l) (macIn file) (s .count) (keys₀ .count) memory₀ in
         let v : Settles keys₀ (macIn file) (s .count) memory₀ left r′ =
@@ -81,9 +81,9 @@ module _ {file passphrase before after : List ℕ} {ceiling : ℕ} {r : Reading}
         (subst (λ (m : List ℕ). Settles keys (macIn file) (s .count) m left r′) (d .text)
         (subst (λ (n : ℕ). Settles keys (macIn file) n memory left r′) (compressions-are u ∙ parts .1) e)) in
         let fits : length memory₀ ≤ length before = omega (arith, w .1, ltb-false (length before) (length file - 200) (passed .t3)) in (
-          same-reading u v,
+          same-reading u (v .reports),
           u .memory ∙ sym (longer report (length memory₀) (length before) (parts .0) fits)
-              ∙ ap₂ (λ (l m : List ℕ). l ++ zeros (length before - length m)) (sym (v .memory)) (sym (d .text)),
+              ∙ ap₂ (λ (l m : List ℕ). l ++ zeros (length before - length m)) (sym (v .reports .memory)) (sym (d .text)),
         )
 
     -- its count is the one that was handed on, and belongs to the whole body decrypted
@@ -93,8 +93,8 @@ module _ {file passphrase before after : List ℕ} {ceiling : ℕ} {r : Reading}
         × (length memory ≡ length file - 200)
     unfolding v3
     state-held =
-        let w = whole-body v3 v3-laws file (stretchedIn passphrase file) (d .bytes) (key-sized (stretchedOf (iterIn file) (startOf passphrase (saltIn file)))) (d .whole) in (
-          blocks-are e ∙ settled-parts (keys .k) (keys .l) (macIn file) (r .compressions) (keys .count) memory .2,
+        let w = whole-body v3Edition v3-laws file (stretchedIn passphrase file) (d .bytes) (key-sized (stretchedOf (iterIn file) (startOf passphrase (saltIn file)))) (d .whole) in (
+          blocks-are (e .reports) ∙ settled-parts (keys .k) (keys .l) (macIn file) (r .compressions) (keys .count) memory .2,
           d .count ∙ w .3,
           d .text ∙ w .0,
           ap length (d .text) ∙ w .1,

@@ -12,7 +12,7 @@ use Rattle.file.specs.Reading.{Report, refused, workspaceOf, readingOf}
 use Rattle.file.specs.Writing.{writingOf, writeTests}
 use Rattle.file.proofs.Ends as Ends
 use Rattle.file.proofs.Tables.{first-between}
-use Rattle.safe.specs.V3.{v3}
+use Rattle.safe.specs.V3.{v3, v3Edition}
 use Rattle.safe.specs.Answers.{refusalNumber, outcomeNumber, headerCount, recordCount, writtenNumber, reported}
 use Rattle.safe.specs.Calls.{Reports}
 use Rattle.safe.specs.declared.Outcome.{Outcome}
@@ -40,15 +40,15 @@ answers t o p q s =
 
 module _ (file passphrase : List ℕ) (ceiling : ℕ) (before : List ℕ) where
   abbrev t : Report
-  t = readingOf v3 file passphrase ceiling (length before)
+  t = readingOf v3Edition file passphrase ceiling (length before)
 
   by-number : (b : Bool) → eqb (t .number) 0 ≡ b → (r : Reading) × Reports t before (workspaceOf (length before) t) r
   unfolding refused
   by-number true e = (answer t (Outcome.Accepted (t .headers) (t .records)), record { answer = answers t _ (sym (eqb-true _ _ e)) refl refl; memory = refl })
   by-number false e =
       let n = eqb-false (t .number) 0 e in
-      let d = Ends.bare v3 file passphrase ceiling (length before) n in
-      let m = Ends.nine-most v3 file passphrase ceiling (length before) in
+      let d = Ends.bare v3Edition file passphrase ceiling (length before) n in
+      let m = Ends.nine-most v3Edition file passphrase ceiling (length before) in
       let one : 1 ≤ t .number = omega (arith, n) in (
         answer t (Outcome.Refused (refusalOf (t .number))),
         record {
@@ -62,13 +62,13 @@ module _ (file passphrase : List ℕ) (ceiling : ℕ) (before : List ℕ) where
 
 module _ (passphrase salt : List ℕ) (iter : ℕ) (K L iv body : List ℕ) (room : ℕ) where
   abbrev n : ℕ
-  n = writingOf v3 passphrase salt iter K L iv body room .number
+  n = writingOf v3Edition passphrase salt iter K L iv body room .number
 
   done-or-not : (b : Bool) → eqb n 0 ≡ b → (r : Written) × (writtenNumber r ≡ n)
   done-or-not true e = (Written.Done, sym (eqb-true _ _ e))
   done-or-not false e =
-      let w = Ends.write-told v3 passphrase salt iter K L iv body room (eqb-false n 0 e) in
-      let b = first-between 1 10 n {ts = writeTests v3 passphrase iter K iv body room} (Ends.write-between v3 passphrase salt iter K L iv body room) (w .0) in
+      let w = Ends.write-told v3Edition passphrase salt iter K L iv body room (eqb-false n 0 e) in
+      let b = first-between 1 10 n {ts = writeTests v3 (v3Edition .wellFormed body) passphrase iter K iv body room} (Ends.write-between v3Edition passphrase salt iter K L iv body room) (w .0) in
       (Written.Refused (refusalOf n), numbered n (b .0) (b .1))
 
   pub a-writing : (r : Written) × (writtenNumber r ≡ n)

@@ -11,13 +11,13 @@ use Rattle.stretch.proofs.Counts.{key-sized, check-count}
 use Rattle.chain.proofs.TwofishLaws.{twofishLaws}
 use Rattle.body.proofs.Decided.{decides, well-formed, covered-are}
 use Rattle.file.specs.Edition.{Laws}
-use Rattle.safe.specs.V3.{stretchedV3, v3}
+use Rattle.safe.specs.V3.{stretchedV3, v3, v3Edition}
 
 pub hmac-sized : (k m : List ℕ) → Sized 32 (hmacOf k m)
 unfolding hmacOf
 hmac-sized k m = sha256-sized _
 
-pub v3-laws : Laws v3
+pub v3-laws : Laws v3Edition
 unfolding v3 stretchedV3
 v3-laws =
     record {

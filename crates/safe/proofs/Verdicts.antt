@@ -24,7 +24,7 @@ use Rattle.file.specs.Reading.{Report, refused, accepted, workspaceOf, earlyTes
 use borrow.Author.Tests.{ltb-false}
 use Rattle.file.proofs.Tables.{Decided, passes, stops, decide, first-between, by-zero, by-number}
 use Rattle.file.proofs.Accepted.{good-length}
-use Rattle.safe.specs.V3.{v3, stretchedV3}
+use Rattle.safe.specs.V3.{v3, v3Edition, stretchedV3}
 use Rattle.safe.specs.Answers.{refusalNumber, earlyNumber, reported}
 use Rattle.safe.specs.Calls.{blocksIn, Reports}
 use Rattle.safe.specs.Steps.{earlyReading, Ready, stateUnder, Decrypts, verdictOf, Settles, settledUnder, openedBy}
@@ -78,30 +78,30 @@ module _ (file pass : List ℕ) (ceiling room : ℕ) where
   abbrev stretched : Stretched
   stretched = stretchedV3 pass (split file .salt) (numberLow (split file .iter))
 
-  early-refused : (x : Refusal) {t : Early} → earlyNumber t ≡ earlyReading file pass ceiling room → t ≡ Early.Refused x → readingOf v3 file pass ceiling room ≡ refused (refusalNumber x) 0 0
+  early-refused : (x : Refusal) {t : Early} → earlyNumber t ≡ earlyReading file pass ceiling room → t ≡ Early.Refused x → readingOf v3Edition file pass ceiling room ≡ refused (refusalNumber x) 0 0
   unfolding readingOf earlyTests v3
   early-refused x e f =
       let g : refusalNumber x ≡ earlyReading file pass ceiling room = sym (ap earlyNumber f) ∙ e in
-      by-number (λ (k : ℕ). refused k 0 0) (checked v3 (split file) stretched ((length file - 200) / 16)) 7
+      by-number (λ (k : ℕ). refused k 0 0) (checked v3Edition (split file) stretched ((length file - 200) / 16)) 7
       (earlyTests v3 (split file) ((length file - 200) / 16) file pass ceiling room) refl g (positive x)
 
-  early-passed : {t : Early} → earlyNumber t ≡ earlyReading file pass ceiling room → t ≡ Early.Passed → readingOf v3 file pass ceiling room ≡ checked v3 (split file) stretched ((length file - 200) / 16)
+  early-passed : {t : Early} → earlyNumber t ≡ earlyReading file pass ceiling room → t ≡ Early.Passed → readingOf v3Edition file pass ceiling room ≡ checked v3Edition (split file) stretched ((length file - 200) / 16)
   unfolding readingOf earlyTests v3
   early-passed e f =
       let g : 0 ≡ earlyReading file pass ceiling room = sym (ap earlyNumber f) ∙ e in
-      by-zero (λ (k : ℕ). refused k 0 0) (checked v3 (split file) stretched ((length file - 200) / 16)) 7
+      by-zero (λ (k : ℕ). refused k 0 0) (checked v3Edition (split file) stretched ((length file - 200) / 16)) 7
       (earlyTests v3 (split file) ((length file - 200) / 16) file pass ceiling room) refl g refl
 
 pub reads-refused : (file pass before : List ℕ) (ceiling : ℕ) (x : Refusal) {t : Early} {after : List ℕ} {r : Reading}
     → earlyNumber t ≡ earlyReading file pass ceiling (length before) → t ≡ Early.Refused x → reported r [] ≡ refused (refusalNumber x) 0 0
-    → after ≡ zeros (length before) → Reports (readingOf v3 file pass ceiling (length before)) before after r
+    → after ≡ zeros (length before) → Reports (readingOf v3Edition file pass ceiling (length before)) before after r
 reads-refused file pass before ceiling x e f a m =
     refused-reports (refusalNumber x) 0 0 (early-refused file pass ceiling (length before) x e f) a m
 
 pub reads-passed : (file pass before zeroed : List ℕ) (ceiling : ℕ) {t : Early} {after : List ℕ} {r : Reading}
     → earlyNumber t ≡ earlyReading file pass ceiling (length before) → t ≡ Early.Passed → zeroed ≡ zeros (length before)
     → Reports (openedBy pass file) zeroed after r
-    → Reports (readingOf v3 file pass ceiling (length before)) before after r
+    → Reports (readingOf v3Edition file pass ceiling (length before)) before after r
 reads-passed file pass before zeroed ceiling {after = after} {r = r} e f z x =
     let p = early-passed file pass ceiling (length before) e f in
     let l : length zeroed ≡ length before = ap length z ∙ length-replicate (length before) 0 in
@@ -122,12 +122,12 @@ marker-from file n h e =
 -- the body's verdict is the report
 module _ (K L mac : List ℕ) (c blocks : ℕ) (body : List ℕ) where
   abbrev comes-to : Bool → Bool → Report
-  comes-to a b = cond (not a) (refused 9 c blocks) (cond (not b) (refused 9 c blocks) (accepted v3 K L c blocks body))
+  comes-to a b = cond (not a) (refused 9 c blocks) (cond (not b) (refused 9 c blocks) (accepted v3Edition K L c blocks body))
 
   abbrev verdict : Bool → Bool → Judged
   verdict a b = cond a (cond b (Counts (headersOf body) (recordsOf body)) NotWellFormed) NotWellFormed
 
-  verdict-is-no : verdictOf L mac body ≡ NotWellFormed → settled v3 K L mac c blocks body ≡ refused 9 c blocks
+  verdict-is-no : verdictOf L mac body ≡ NotWellFormed → settled v3Edition K L mac c blocks body ≡ refused 9 c blocks
   unfolding verdictOf settled bodyTests v3
   verdict-is-no e = go (wellFormed body) (same (hmacOf L (coveredOf body)) mac) e
     where
@@ -137,19 +137,19 @@ module _ (K L mac : List ℕ) (c blocks : ℕ) (body : List ℕ) where
       go false b e = refl
 
   verdict-is-yes : (h n : ℕ) → verdictOf L mac body ≡ Counts h n
-      → (settled v3 K L mac c blocks body ≡ accepted v3 K L c blocks body) × (h ≡ headersOf body) × (n ≡ recordsOf body)
+      → (settled v3Edition K L mac c blocks body ≡ accepted v3Edition K L c blocks body) × (h ≡ headersOf body) × (n ≡ recordsOf body)
   unfolding verdictOf settled bodyTests v3
   verdict-is-yes h n e = go (wellFormed body) (same (hmacOf L (coveredOf body)) mac) e
     where
-      go : (a b : Bool) → verdict a b ≡ Counts h n → (comes-to a b ≡ accepted v3 K L c blocks body) × (h ≡ headersOf body) × (n ≡ recordsOf body)
+      go : (a b : Bool) → verdict a b ≡ Counts h n → (comes-to a b ≡ accepted v3Edition K L c blocks body) × (h ≡ headersOf body) × (n ≡ recordsOf body)
       go true true e = (refl, cc, cc)
       go true false e = absurd (let z : _≡_ {A = ℕ} 0 1 = cc in omega arith)
       go false b e = absurd (let z : _≡_ {A = ℕ} 0 1 = cc in omega arith)
 
   -- a report's body is the whole body or none of it, and its counts are those that were handed in
-  pub settled-parts : let t = settled v3 K L mac c blocks body in (length (t .body) ≤ length body) × (t .compressions ≡ c) × (t .blocks ≡ blocks)
+  pub settled-parts : let t = settled v3Edition K L mac c blocks body in (length (t .body) ≤ length body) × (t .compressions ≡ c) × (t .blocks ≡ blocks)
   unfolding settled bodyTests accepted refused
-  settled-parts = go (v3 .wellFormed body) (same (v3 .hmac L (v3 .covered body)) mac)
+  settled-parts = go (v3Edition .wellFormed body) (same (v3 .hmac L (v3Edition .covered body)) mac)
     where
       go : (a b : Bool) → let t = comes-to a b in (length (t .body) ≤ length body) × (t .compressions ≡ c) × (t .blocks ≡ blocks)
       go true true = (omega arith, refl, refl)
@@ -160,21 +160,23 @@ module _ (K L mac : List ℕ) (c blocks : ℕ) (body : List ℕ) where
 module _ (keys : Keys) (mac : List ℕ) (c : ℕ) (body : List ℕ) {j : Judged} (v : j ≡ verdictOf (keys .l) mac body) where
   pub settled-no : j ≡ NotWellFormed → {after : List ℕ} {r : Reading} → reported r [] ≡ refused 9 c (keys .count) → after ≡ zeros (length body)
       → Settles keys mac c body after r
-  settled-no f a z = refused-reports 9 c (keys .count) (verdict-is-no (keys .k) (keys .l) mac c (keys .count) body (sym v ∙ f)) a z
+  settled-no f a z = record { reports = refused-reports 9 c (keys .count) (verdict-is-no (keys .k) (keys .l) mac c (keys .count) body (sym v ∙ f)) a z }
 
   pub settled-yes : (h q : ℕ) → j ≡ Counts h q
       → Settles keys mac c body body (record { outcome = Accepted h q; k = keys .k; l = keys .l; compressions = c; blocks = keys .count })
   unfolding reported accepted v3 workspaceOf
   settled-yes h q f =
       let y = verdict-is-yes (keys .k) (keys .l) mac c (keys .count) body h q (sym v ∙ f) in
-      let e : settled v3 (keys .k) (keys .l) mac c (keys .count) body .body ≡ body = ap (λ (r : Report). r .body) (y .0) in
+      let e : settled v3Edition (keys .k) (keys .l) mac c (keys .count) body .body ≡ body = ap (λ (r : Report). r .body) (y .0) in
       let r : Reading = record { outcome = Accepted h q; k = keys .k; l = keys .l; compressions = c; blocks = keys .count } in
       let z : length body - length body ≡ 0 = omega arith in
       record {
-        answer = ap (reported r) e
-            ∙ (λ i. record { number = 0; keyK = keys .k; keyL = keys .l; headers = y .1 i; records = y .2 i; compressions = c; blocks = keys .count; body = body })
-            ∙ sym (y .0);
-        memory = sym (append-nil body) ∙ ap (λ (n : ℕ). body ++ zeros n) (sym z) ∙ ap (λ (b : List ℕ). b ++ zeros (length body - length b)) (sym e);
+        reports = record {
+          answer = ap (reported r) e
+              ∙ (λ i. record { number = 0; keyK = keys .k; keyL = keys .l; headers = y .1 i; records = y .2 i; compressions = c; blocks = keys .count; body = body })
+              ∙ sym (y .0);
+          memory = sym (append-nil body) ∙ ap (λ (n : ℕ). body ++ zeros n) (sym z) ∙ ap (λ (b : List ℕ). b ++ zeros (length body - length b)) (sym e);
+        };
       }
 
 -- a memory with more zeros behind it
@@ -191,16 +193,16 @@ pub unlocked : (file P′ w body mac : List ℕ) (c : ℕ) {keys : Keys} {before
     → Reports (settledUnder file P′ c) before (after ++ rest) r
 unlocked file P′ w body mac c {keys} {before} {after} {rest} {r} ready d long m b s₀ e =
     let s : Settles keys mac c w after r = subst (λ (x : List ℕ). Settles keys mac c x after r) b s₀ in
-    let t = settled v3 (keys .k) (keys .l) mac c (keys .count) w in
+    let t = settled v3Edition (keys .k) (keys .l) mac c (keys .count) w in
     let same-report : t ≡ settledUnder file P′ c =
-    ap₂ (λ (K L : List ℕ). settled v3 K L mac c (keys .count) w) (d .k) (d .l)
-    ∙ ap₂ (λ (x : List ℕ) (n : ℕ). settled v3 (keyK v3 (split file) P′) (keyL v3 (split file) P′) x c n w) m (d .count)
-    ∙ ap (settled v3 (keyK v3 (split file) P′) (keyL v3 (split file) P′) (split file .mac) c (stateUnder file P′ .count)) (d .text) in
+    ap₂ (λ (K L : List ℕ). settled v3Edition K L mac c (keys .count) w) (d .k) (d .l)
+    ∙ ap₂ (λ (x : List ℕ) (n : ℕ). settled v3Edition (keyK v3 (split file) P′) (keyL v3 (split file) P′) x c n w) m (d .count)
+    ∙ ap (settled v3Edition (keyK v3 (split file) P′) (keyL v3 (split file) P′) (split file .mac) c (stateUnder file P′ .count)) (d .text) in
     let holds : length w ≤ length before = omega (arith, ready .holds) in
     let zs : rest ≡ zeros (length before - length w) = e ∙ ap (drop (length w)) (ready .blank) ∙ drop-same 0 (length w) (length before) holds in
     reports-as (sym same-report) (record {
-      answer = s .answer;
-      memory = ap₂ (λ (x y : List ℕ). x ++ y) (s .memory) zs
+      answer = s .reports .answer;
+      memory = ap₂ (λ (x y : List ℕ). x ++ y) (s .reports .memory) zs
           ∙ longer t (length w) (length before) (settled-parts (keys .k) (keys .l) mac c (keys .count) w .0) holds;
     })
 
@@ -215,11 +217,11 @@ stretched-is pass salt n e f g =
 
 -- the check passed, or not
 module _ (file : List ℕ) (s : Stretched) where
-  pub checked-passed : same (s .check) (split file .check) ≡ true → checked v3 (split file) s (blocksIn file) ≡ settledUnder file (s .key) (s .count)
+  pub checked-passed : same (s .check) (split file .check) ≡ true → checked v3Edition (split file) s (blocksIn file) ≡ settledUnder file (s .key) (s .count)
   unfolding checked
   checked-passed e = rw e
 
-  pub checked-failed : same (s .check) (split file .check) ≡ false → checked v3 (split file) s (blocksIn file) ≡ refused 8 (s .count) 0
+  pub checked-failed : same (s .check) (split file .check) ≡ false → checked v3Edition (split file) s (blocksIn file) ≡ refused 8 (s .count) 0
   unfolding checked
   checked-failed e = rw e
 

@@ -14,7 +14,7 @@ use Rattle.file.specs.Description.{cbc}
 use Rattle.file.specs.Writing.{Writing, unwritten, clear, earlyWriteTests, writeTests, written, writingOf, Values}
 use Rattle.file.proofs.Tables.{Decided, passes, stops, decide, first-between, by-zero, by-number, deciding-append}
 use Rattle.file.proofs.Written.{good-body}
-use Rattle.safe.specs.V3.{v3}
+use Rattle.safe.specs.V3.{v3, v3Edition}
 use Rattle.safe.specs.Answers.{refusalNumber, earlyNumber}
 use Rattle.safe.specs.Steps.{earlyWriting}
 use Rattle.safe.specs.Laying.{Blank, Laid}
@@ -41,7 +41,7 @@ values-of s i k l v b =
 
 module _ (pass : List ℕ) (iter : ℕ) (body : List ℕ) (room : ℕ) where
   abbrev early : List Test
-  early = earlyWriteTests v3 pass iter body room
+  early = earlyWriteTests v3 (wellFormed body) pass iter body room
 
   -- what the early tests leave for the laying out
   pub blank : {t : Early} {zeroed : List ℕ} → earlyNumber t ≡ earlyWriting pass iter body room → t ≡ Early.Passed → zeroed ≡ zeros room → Blank body zeroed
@@ -60,24 +60,24 @@ module _ (pass : List ℕ) (iter : ℕ) (body : List ℕ) (room : ℕ) where
     abbrev last : List Test
     last = refuse-if 10 (not (clear (length body / 16) (cbc v3 K iv body))) ∷ []
 
-    apart : writingOf v3 pass salt iter K L iv body room
-        ≡ deciding (λ (k : ℕ). unwritten k room) early (deciding (λ (k : ℕ). unwritten k room) last (written v3 pass salt iter K L iv body room))
+    apart : writingOf v3Edition pass salt iter K L iv body room
+        ≡ deciding (λ (k : ℕ). unwritten k room) early (deciding (λ (k : ℕ). unwritten k room) last (written v3Edition pass salt iter K L iv body room))
     unfolding writingOf writeTests
-    apart = deciding-append (λ (k : ℕ). unwritten k room) early last (written v3 pass salt iter K L iv body room)
+    apart = deciding-append (λ (k : ℕ). unwritten k room) early last (written v3Edition pass salt iter K L iv body room)
 
     pub writes-refused : (x : Refusal) {t : Early} {out : List ℕ} → earlyNumber t ≡ earlyWriting pass iter body room → t ≡ Early.Refused x → out ≡ zeros room
-        → (refusalNumber x ≡ writingOf v3 pass salt iter K L iv body room .number) × (out ≡ writingOf v3 pass salt iter K L iv body room .output)
+        → (refusalNumber x ≡ writingOf v3Edition pass salt iter K L iv body room .number) × (out ≡ writingOf v3Edition pass salt iter K L iv body room .output)
     unfolding earlyWriteTests v3 unwritten
     writes-refused x e f z =
         let g : refusalNumber x ≡ earlyWriting pass iter body room = sym (ap earlyNumber f) ∙ e in
-        let w = apart ∙ by-number (λ (k : ℕ). unwritten k room) (deciding (λ (k : ℕ). unwritten k room) last (written v3 pass salt iter K L iv body room)) 9 early refl g (positive x) in
+        let w = apart ∙ by-number (λ (k : ℕ). unwritten k room) (deciding (λ (k : ℕ). unwritten k room) last (written v3Edition pass salt iter K L iv body room)) 9 early refl g (positive x) in
         (sym (ap (λ (y : Writing). y .number) w), z ∙ sym (ap (λ (y : Writing). y .output) w))
 
     pub writes-laid : {t : Early} {n k : ℕ} {out : List ℕ} → earlyNumber t ≡ earlyWriting pass iter body room → t ≡ Early.Passed → n ≡ room → Laid pass salt iter K L iv body n k out
-        → (k ≡ writingOf v3 pass salt iter K L iv body room .number) × (out ≡ writingOf v3 pass salt iter K L iv body room .output)
+        → (k ≡ writingOf v3Edition pass salt iter K L iv body room .number) × (out ≡ writingOf v3Edition pass salt iter K L iv body room .output)
     unfolding earlyWriteTests v3
     writes-laid {k = k} {out = out} e f m x =
         let g : 0 ≡ earlyWriting pass iter body room = sym (ap earlyNumber f) ∙ e in
-        let w = apart ∙ by-zero (λ (k : ℕ). unwritten k room) (deciding (λ (k : ℕ). unwritten k room) last (written v3 pass salt iter K L iv body room)) 9 early refl g refl in
+        let w = apart ∙ by-zero (λ (k : ℕ). unwritten k room) (deciding (λ (k : ℕ). unwritten k room) last (written v3Edition pass salt iter K L iv body room)) 9 early refl g refl in
         let y : Laid pass salt iter K L iv body room k out = rw m at x in
         (y .is-number ∙ sym (ap (λ (y : Writing). y .number) w), y .is-output ∙ sym (ap (λ (y : Writing). y .output) w))

@@ -11,7 +11,7 @@ use Rattle.chain.specs.Opening.{Opening}
 use Rattle.file.specs.Layout.{split}
 use Rattle.file.specs.Reading.{Report, workspaceOf, keyK, keyL, bodyOf, readingOf}
 use Rattle.file.specs.Writing.{writingOf, Values}
-use Rattle.safe.specs.V3.{v3}
+use Rattle.safe.specs.V3.{v3, v3Edition}
 use Rattle.safe.specs.Answers.{outcomeNumber, writtenNumber, reported}
 use Rattle.safe.specs.declared.Reading.{Reading}
 use Rattle.safe.specs.declared.Written.{Written}
@@ -73,7 +73,7 @@ pub record Reports (report : Report) (before after : List ℕ) (r : Reading) : T
 -- The contract of `read`: given a file, a passphrase, a ceiling and a workspace, it answered r and left the workspace as `after`.
 pub record Reads (file passphrase : List ℕ) (ceiling : ℕ) (before after : List ℕ) (r : Reading) : Type 0 where
   pub bytes : Bytes file
-  pub reports : Reports (readingOf v3 file passphrase ceiling (length before)) before after r
+  pub reports : Reports (readingOf v3Edition file passphrase ceiling (length before)) before after r
 
 -- r is an acceptance with keys K and L, and the workspace holds the body and zeros after it
 pub record Accepts (file before after : List ℕ) (r : Reading) (K L body : List ℕ) : Type 0 where
@@ -86,5 +86,5 @@ pub record Accepts (file before after : List ℕ) (r : Reading) (K L body : List
 -- The contract of `write`: given these values and an output, it answered r and left the output as `after`.
 pub record Writes (passphrase salt : List ℕ) (iter : ℕ) (K L iv body before after : List ℕ) (r : Written) : Type 0 where
   pub values : Values salt iter K L iv body
-  pub number : writtenNumber r ≡ writingOf v3 passphrase salt iter K L iv body (length before) .number
-  pub output : after ≡ writingOf v3 passphrase salt iter K L iv body (length before) .output
+  pub number : writtenNumber r ≡ writingOf v3Edition passphrase salt iter K L iv body (length before) .number
+  pub output : after ≡ writingOf v3Edition passphrase salt iter K L iv body (length before) .output

@@ -12,7 +12,7 @@ use Rattle.file.specs.Refusals.{refuse-if, deciding}
 use Rattle.file.specs.Edition.{Stretched}
 use Rattle.file.specs.Description.{wrapped, cbc}
 use Rattle.file.specs.Writing.{Writing, unwritten, written, clear}
-use Rattle.safe.specs.V3.{v3, stretchedV3}
+use Rattle.safe.specs.V3.{v3, v3Edition, stretchedV3}
 
 -- the parts before the body
 unfoldable pub headOf : Stretched → List ℕ → ℕ → List ℕ → List ℕ → List ℕ → List ℕ
@@ -32,7 +32,7 @@ pub record Blank (body output : List ℕ) : Type 0 where
 -- a writing that has passed the early tests: what test 10 then decides
 abbrev pub laidOut : (passphrase salt : List ℕ) (iter : ℕ) (K L iv body : List ℕ) (room : ℕ) → Writing
 laidOut passphrase salt iter K L iv body room =
-    deciding (λ k. unwritten k room) (refuse-if 10 (not (clear (length body / 16) (cbc v3 K iv body))) ∷ []) (written v3 passphrase salt iter K L iv body room)
+    deciding (λ k. unwritten k room) (refuse-if 10 (not (clear (length body / 16) (cbc v3 K iv body))) ∷ []) (written v3Edition passphrase salt iter K L iv body room)
 
 pub record Laid (passphrase salt : List ℕ) (iter : ℕ) (K L iv body : List ℕ) (room number : ℕ) (output : List ℕ) : Type 0 where
   pub is-number : number ≡ laidOut passphrase salt iter K L iv body room .number

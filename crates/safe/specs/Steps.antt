@@ -15,7 +15,7 @@ use Rattle.file.specs.Layout.{split}
 use Rattle.file.specs.Refusals.{deciding}
 use Rattle.file.specs.Reading.{Report, earlyTests, keysOpened, keyK, keyL, bodyOf, settled, checked}
 use Rattle.file.specs.Writing.{earlyWriteTests}
-use Rattle.safe.specs.V3.{v3, stretchedV3}
+use Rattle.safe.specs.V3.{v3, v3Edition, stretchedV3}
 use Rattle.safe.specs.Calls.{saltIn, iterIn, blocksIn, Reports}
 use Rattle.safe.specs.declared.Reading.{Reading}
 use Rattle.safe.specs.declared.decrypt.Keys.{Keys}
@@ -25,7 +25,7 @@ abbrev pub earlyReading : (file passphrase : List ℕ) (ceiling room : ℕ) → 
 earlyReading file passphrase ceiling room = deciding (λ (n : ℕ). n) (earlyTests v3 (split file) (blocksIn file) file passphrase ceiling room) 0
 
 abbrev pub earlyWriting : (passphrase : List ℕ) (iter : ℕ) (body : List ℕ) (room : ℕ) → ℕ
-earlyWriting passphrase iter body room = deciding (λ (n : ℕ). n) (earlyWriteTests v3 passphrase iter body room) 0
+earlyWriting passphrase iter body room = deciding (λ (n : ℕ). n) (earlyWriteTests v3 (wellFormed body) passphrase iter body room) 0
 
 -- a file of whole blocks, with a body of n bytes
 pub record Measured (file : List ℕ) (n : ℕ) : Type 0 where
@@ -65,13 +65,13 @@ verdictOf L mac body =
     cond (wellFormed body) (cond (same (hmacOf L (coveredOf body)) mac) (Counts (headersOf body) (recordsOf body)) NotWellFormed) NotWellFormed
 
 -- settled: of a memory, keys and counts, whatever they are, the report that they make
-abbrev pub Settles : (keys : Keys) (mac : List ℕ) (compressions : ℕ) (before after : List ℕ) → Reading → Type 0
-Settles keys mac compressions before after r = Reports (settled v3 (keys .k) (keys .l) mac compressions (keys .count) before) before after r
+pub record Settles (keys : Keys) (mac : List ℕ) (compressions : ℕ) (before after : List ℕ) (r : Reading) : Type 0 where
+  pub reports : Reports (settled v3Edition (keys .k) (keys .l) mac compressions (keys .count) before) before after r
 
 -- the report of a file's body under P'; and of a file that has passed the early tests
 abbrev pub settledUnder : (file P′ : List ℕ) (compressions : ℕ) → Report
 settledUnder file P′ compressions =
-    settled v3 (keyK v3 (split file) P′) (keyL v3 (split file) P′) (split file .mac) compressions (stateUnder file P′ .count) (stateUnder file P′ .done)
+    settled v3Edition (keyK v3 (split file) P′) (keyL v3 (split file) P′) (split file .mac) compressions (stateUnder file P′ .count) (stateUnder file P′ .done)
 
 abbrev pub openedBy : (passphrase file : List ℕ) → Report
-openedBy passphrase file = checked v3 (split file) (stretchedV3 passphrase (saltIn file) (iterIn file)) (blocksIn file)
+openedBy passphrase file = checked v3Edition (split file) (stretchedV3 passphrase (saltIn file) (iterIn file)) (blocksIn file)

@@ -1,4 +1,4 @@
--- The V3 edition: SHA-256 and its stretching, HMAC-SHA-256, Twofish, and document 01's well-formed body.
+-- The V3 format: SHA-256 and its stretching, HMAC-SHA-256, Twofish, and document 01's well-formed body.
 use Prim.Native.Nat.{ℕ}
 use mathlib.Core.Path.{_≡_}
 use mathlib.Core.List.{List}
@@ -8,7 +8,7 @@ use Rattle.chain.specs.Twofish.{twofishCipher}
 use Rattle.body.specs.Sections.{covered}
 use Rattle.body.specs.WellFormed.{WellFormed}
 use Rattle.body.specs.Decision.{wellFormed, coveredOf, headersOf, recordsOf}
-use Rattle.file.specs.Edition.{Edition, Stretched}
+use Rattle.file.specs.Edition.{Format, Edition, Stretched}
 
 -- after ITER steps the stretcher holds P', and its check goes on from there
 unfoldable pub stretchedV3 : List ℕ → List ℕ → ℕ → Stretched
@@ -23,16 +23,9 @@ stretchedV3 passphrase salt iter =
 abbrev pub BodyV3 : List ℕ → List ℕ → Type 0
 BodyV3 b d = (w : WellFormed b) × (covered (w .fields) ≡ d)
 
-unfoldable pub v3 : Edition
-v3 =
-    record {
-      floor = floor;
-      stretched = stretchedV3;
-      hmac = hmacOf;
-      cipher = twofishCipher;
-      Body = BodyV3;
-      wellFormed = wellFormed;
-      covered = coveredOf;
-      headers = headersOf;
-      records = recordsOf;
-    }
+unfoldable pub v3 : Format
+v3 = record { floor = floor; stretched = stretchedV3; hmac = hmacOf; cipher = twofishCipher; Body = BodyV3 }
+
+-- with the well-formed body as functions of the bytes
+abbrev pub v3Edition : Edition
+v3Edition = record { format = v3; wellFormed = wellFormed; covered = coveredOf; headers = headersOf; records = recordsOf }
