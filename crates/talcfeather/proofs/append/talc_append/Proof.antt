@@ -1,6 +1,6 @@
 -- `talcfeather::append::talc_append` meets its contract: number, answer and buffer are those of `fields::append`.
 use mathlib.Core.Path.{ap, _∙_}
-use Rattle.fields.specs.Stored.{inBytes as field}
+use Rattle.fields.specs.Stored.{stored as field}
 use Rattle.fields.specs.Append.{bufferAfter, appendNumber}
 use Rattle.talcfeather.specs.Numbers.{inBytes}
 use Rattle.talcfeather.specs.Append.{appendNumbers}

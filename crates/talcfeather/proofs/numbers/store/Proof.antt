@@ -1,4 +1,4 @@
--- `talcfeather::numbers::store` meets its contract. The invariant of its loop: the first i bytes are those of the stored numbers.
+-- `talcfeather::numbers::store` meets its contract. The invariant of its loop: the first i bytes are those of the numbers.
 use mathlib.Core.Path.{_≡_, sym, ap, ap₂, _∙_}
 use Prim.Native.Nat.{_-_, _*_, _/_, _%_, _≤_, _<_}
 use native.Mathlib.Numerals.{add-one}
@@ -14,7 +14,7 @@ use Rattle.talcfeather.proofs.numbers.store.Statement.{statement}
 use Rattle.talcfeather.proofs.numbers.store.Tie as tie
 
 abbrev Inv-loop : tie.InvT-loop
-Inv-loop numbers memory₀ i₀ memory i = (i ≤ length memory₀) × (length memory ≡ length memory₀) × (memory ≡ paste memory₀ 0 (stored numbers) i)
+Inv-loop numbers memory₀ i₀ memory i = (i ≤ length memory₀) × (length memory ≡ length memory₀) × (memory ≡ paste memory₀ 0 (inBytes numbers) i)
 
 abbrev μ-loop : tie.MeasureT-loop
 μ-loop numbers memory₀ i₀ memory i = length memory₀ - i
