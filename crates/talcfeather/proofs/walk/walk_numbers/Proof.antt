@@ -7,7 +7,7 @@ use Rattle.talcfeather.proofs.walk.walk_numbers.Statement.{statement}
 use Rattle.talcfeather.proofs.walk.walk_numbers.Tie as tie
 
 returns : tie.Need-returns
-returns c = c .field-numbers .ensures ∙ nine-numbers _ _ ∙ sym (ap walkNumbers (c .before .before .w .given .1))
+returns c = c .field-numbers .ensures ∙ nine-numbers (c .before .before .w .given .0 .0) (c .before .before .w .given .0 .1 .0) ∙ sym (ap walkNumbers (c .before .before .w .given .1))
 
 pub walk-numbers-spec : {M : Type 1} → statement M
 walk-numbers-spec =
