@@ -15,14 +15,14 @@ lowerDigits = digitsWith (0x61 ∷ 0x62 ∷ 0x63 ∷ 0x64 ∷ 0x65 ∷ 0x66 ∷ 
 abbrev pub upperDigits : List ℕ
 upperDigits = digitsWith (0x41 ∷ 0x42 ∷ 0x43 ∷ 0x44 ∷ 0x45 ∷ 0x46 ∷ [])
 
--- the first place of b in a list, and the list's length where it has none
-abbrev pub placeOf : ℕ → List ℕ → ℕ
-placeOf b [] = 0
-placeOf b (d ∷ ds) = cond (eqb b d) 0 (suc (placeOf b ds))
+-- the first index of b in a list, and the length of a list without it
+abbrev pub indexIn : ℕ → List ℕ → ℕ
+indexIn b [] = 0
+indexIn b (d ∷ ds) = cond (eqb b d) 0 (suc (indexIn b ds))
 
--- the value of a digit of either case: its place among the digits; 16 of a byte that is no digit
+-- the value of a digit of either case: its index among the digits; 16 of a byte that is no digit
 unfoldable pub hexValue : ℕ → ℕ
-hexValue b = cond (ltb (placeOf b lowerDigits) 16) (placeOf b lowerDigits) (placeOf b upperDigits)
+hexValue b = cond (ltb (indexIn b lowerDigits) 16) (indexIn b lowerDigits) (indexIn b upperDigits)
 
 -- the digit of a value, in lower case; a greater number counts modulo 16
 unfoldable pub hexDigit : ℕ → ℕ
