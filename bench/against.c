@@ -1,7 +1,8 @@
 /*
- * This tree's library beside another's, in one run: the HMAC over the fields of a body, judging
- * it, reading and writing it. Both are linked, each under names of its own (the Makefile's
- * `against`); `seal` is a function inside the library, and not part of its face.
+ * This tree's library beside another's, in one run: SHA-256 and stretching; the HMAC over the
+ * fields of a body, judging it, reading and writing it. Both are linked, each under names of its
+ * own (the Makefile's `against`); `seal` is a function inside the library, and not part of its
+ * face.
  */
 #include <stdio.h>
 #include <string.h>
@@ -24,6 +25,19 @@ struct slice {
                                uint32_t iter, const uint8_t k[32], const uint8_t l[32],            \
                                const uint8_t iv[16], const uint8_t *body, size_t n, uint8_t *out,  \
                                size_t room);                                                       \
+    void side##_probe_hash(const uint8_t *m, size_t n, uint8_t out[32]);                           \
+    void side##_probe_pieces(const uint8_t *m, size_t n, size_t piece, uint8_t out[32]);           \
+    uint64_t side##_probe_stretch(const uint8_t *p, size_t n, const uint8_t salt[32],              \
+                                  uint32_t iter, uint8_t out[32]);                                 \
+    static void side##_hashes(uint8_t out[32]) { side##_probe_hash(message, MESSAGE, out); }       \
+    static void side##_pieces(uint8_t out[32])                                                     \
+    {                                                                                              \
+        side##_probe_pieces(message, MESSAGE, PIECE, out);                                         \
+    }                                                                                              \
+    static void side##_stretches(uint8_t out[32])                                                  \
+    {                                                                                              \
+        side##_probe_stretch(message, 8, salt, CHAIN, out);                                        \
+    }                                                                                              \
     static void side##_seals(uint8_t out[32])                                                      \
     {                                                                                              \
         uint8_t l[32];                                                                             \
@@ -80,11 +94,23 @@ static void hold(const char *what, size_t notes, int small)
     }
 }
 
+static void hold_hashes(void)
+{
+    struct contest contests[] = {
+        {"SHA-256, one long message", "MB/s", MESSAGE / 1e6, 21, NULL, BOTH(hashes)},
+        {"SHA-256, the same in pieces of 50 bytes", "MB/s", MESSAGE / 1e6, 21, NULL, BOTH(pieces)},
+        {"Stretching: hashes of 32 bytes", "M/s", CHAIN / 1e6, 21, NULL, BOTH(stretches)},
+    };
+    for (size_t i = 0; i < sizeof contests / sizeof contests[0]; i++)
+        contest_hold(&contests[i]);
+}
+
 int main(void)
 {
     fill_message();
     printf("best of several rounds, interleaved; the last column is the speed as a multiple of\n"
            "the speed here\n");
+    hold_hashes();
     hold("4 MB of small fields", 0, 4);
     hold("4 MB of records with notes of 400 bytes", 400, 4);
     return 0;

@@ -161,7 +161,7 @@ pub cases : (map (λ c. judgedOf (c .0)) bodies ≡ map (λ c. c .1) bodies)
     × (map judgedOf others ≡ map (λ s. NotWellFormed) others)
     × (map (λ c. c .0) finds ≡ map (λ c. c .1) finds)
     × (map (λ c. c .0) covers ≡ map (λ c. c .1) covers)
-unfolding numberLow bytesLow Text.runs recordShape valueOf runs divided goodHeader goodRecord goodRuns wellFormed judgedOf firstWith findOf
+unfolding numberLow bytesLow Text.endsWhole recordShape valueOf runs divided goodHeader goodRecord goodRuns wellFormed judgedOf firstWith findOf
 cases = (refl, refl, refl, refl)
 
 none-are : (ss : List (List ℕ)) → map wellFormed ss ≡ map (λ s. false) ss → Each (λ s. WellFormed s → ⊥) ss

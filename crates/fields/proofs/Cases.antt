@@ -5,7 +5,7 @@ use mathlib.Core.Bool.{Bool, true, false}
 use mathlib.Core.List.{List, [], _∷_, _++_, map}
 use lib.ListN.{length, replicate}
 use Rattle.words.specs.Numbers.{numberLow, bytesLow}
-use Rattle.text.specs.Decision.{runs}
+use Rattle.text.specs.Decision.{endsWhole}
 use Rattle.fields.specs.Stored.{stored}
 use Rattle.fields.specs.Value.{to, headerShape, recordShape, valueOf}
 use Rattle.fields.specs.Walk.{walkOf}
@@ -125,7 +125,7 @@ values =
 pub cases : (map (λ c. c .0) walks ≡ map (λ c. c .1) walks)
     × (map (λ c. c .0) appends ≡ map (λ c. c .1) appends)
     × (map (λ c. c .0) values ≡ map (λ c. c .1) values)
-unfolding numberLow bytesLow runs headerShape recordShape valueOf walkOf appendOf
+unfolding numberLow bytesLow endsWhole headerShape recordShape valueOf walkOf appendOf
 cases = (refl, refl, refl)
 
 -- 3 past 4,194,096 also where the buffer goes on: no field ends there

@@ -7,7 +7,7 @@ use Rattle.words.specs.Numbers.{byteOf, numberLow, bytesLow, numberHigh, bytesH
 use Rattle.words.proofs.NumberLaws.{four-high, number-bytes-high, bytes-high-sized}
 use Rattle.words.proofs.ByteLaws.{sized-append}
 use Rattle.sha256.specs.declared.Vars.{Vars}
-use Rattle.sha256.specs.Sha256.{wordOf, wordsOf, padding, initial, compressOf, valueOf, hashOf, digestOf, sha256}
+use Rattle.sha256.specs.Sha256.{wordOf, wordsOf, padding, initial, compressOf, hashValue, hashOf, digestOf, sha256}
 
 pub four : {a b c d : ℕ} {l r : List ℕ} (x : ℕ) → a ≡ byteOf 3 x → b ≡ byteOf 2 x → c ≡ byteOf 1 x → d ≡ byteOf 0 x
     → l ≡ r → a ∷ b ∷ c ∷ d ∷ l ≡ bytesHigh 4 x ++ r
@@ -36,7 +36,7 @@ word-back x h = number-bytes-high 4 x ∙ mod-eq-of-lt h
 
 again-words : (v : Vars) (ha : v .a < 2 ^ 32) (hb : v .b < 2 ^ 32) (hc : v .c < 2 ^ 32) (hd : v .d < 2 ^ 32) (he : v .e < 2 ^ 32) (hf : v .f < 2 ^ 32) (hg : v .g < 2 ^ 32) (hh : v .h < 2 ^ 32)
     → hashOf (digestOf v) ≡ compressOf initial (v .a ∷ v .b ∷ v .c ∷ v .d ∷ v .e ∷ v .f ∷ v .g ∷ v .h ∷ 0x8000_0000 ∷ 0 ∷ 0 ∷ 0 ∷ 0 ∷ 0 ∷ 0 ∷ 256 ∷ [])
-unfolding hashOf valueOf padding digestOf bytesLow bytesHigh numberLow numberHigh wordsOf wordOf
+unfolding hashOf hashValue padding digestOf bytesLow bytesHigh numberLow numberHigh wordsOf wordOf
 again-words v ha hb hc hd he hf hg hh =
     ap (compressOf initial)
     (ap₂ _∷_ (word-back (v .a) ha) (ap₂ _∷_ (word-back (v .b) hb) (ap₂ _∷_ (word-back (v .c) hc) (ap₂ _∷_ (word-back (v .d) hd)

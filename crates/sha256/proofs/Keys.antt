@@ -17,7 +17,7 @@ use Rattle.sha256.specs.declared.Running.{Running}
 use Rattle.sha256.specs.declared.Mac.{Mac}
 use Rattle.sha256.specs.Sha256.{hashOf, digestOf, sha256}
 use Rattle.sha256.specs.Hmac.{shortKey, keyBlock, keyed, hmacOf}
-use Rattle.sha256.specs.Running.{runningOf, left, room, macOf, MacTakes, MacEnds, Takes as RunTakes, Ends as RunEnds}
+use Rattle.sha256.specs.Running.{runningOf, left, tailOf, macOf, MacTakes, MacEnds, Takes as RunTakes, Ends as RunEnds}
 use Rattle.sha256.proofs.Digest.{sha256-sized}
 use Rattle.words.proofs.ByteLaws.{drop-same}
 use Rattle.sha256.proofs.Pieces.{same, state as runState}
@@ -103,7 +103,7 @@ block : (l : List ℕ) {v : Vars} → length l ≡ 64 → v ≡ runningOf l .v �
 unfolding runningOf
 block l h e =
     let z : left l ≡ [] = drop-of-length-le l {i = length l / 64 * 64} (omega arith) in
-    same e (omega arith) (ap room (sym z))
+    same e (omega arith) (ap tailOf (sym z))
 
 pub begins : (k : List ℕ) {i o : Running} → i ≡ runningOf (keyed 0x36 k) → o ≡ runningOf (keyed 0x5c k) → state i (o .v) ≡ macOf k []
 unfolding macOf

@@ -1,4 +1,4 @@
--- The rounds over the schedule are the steps, which make the schedule on the way: a word that follows sixteen others needs only these, so what stands before them can be passed.
+-- The rounds over the schedule are the turns, which make the schedule on the way: a word that follows sixteen others needs only these, so what stands before them can be passed.
 use mathlib.Core.Path.{_≡_, refl, sym, ap, _∙_}
 use mathlib.Core.List.{List, [], _∷_, _++_}
 use Prim.Native.Nat.{ℕ, zero, suc, _+_, _-_, _≤_}
@@ -8,7 +8,7 @@ use Rattle.sha256.specs.declared.Vars.{Vars}
 use Rattle.sha256.specs.declared.Block.{Block}
 use Rattle.sha256.specs.declared.Work.{Work}
 use Rattle.sha256.specs.Sha256.{ks, back, following, extended, scheduleOf, roundsOf, sumOf, compressOf}
-use Rattle.sha256.specs.Steps.{listOf, nextOf, movedOf, stepOf, stepsOf, quarter}
+use Rattle.sha256.specs.Turns.{listOf, nextOf, movedOf, turnOf, turnsOf, quarter}
 
 -- a word before the rest is not looked at
 back-past : (a : ℕ) (w : List ℕ) (i : ℕ) → 1 ≤ i → i ≤ length w → back (a ∷ w) i ≡ back w i
@@ -29,7 +29,7 @@ extended-past (suc n) a w h =
     ap (λ (x : ℕ). extended n (a ∷ (w ++ (x ∷ [])))) (following-past a w h)
     ∙ extended-past n a (w ++ (following w ∷ [])) (simp length-append (omega arith))
 
--- the words as the steps use them
+-- the words as the turns use them
 unfoldable stream : ℕ → Block → List ℕ
 stream zero b = []
 stream (suc n) b = b .w0 ∷ stream n (movedOf b)
@@ -56,33 +56,23 @@ streamed (suc n) b =
     ∙ sym (extended-past n (b .w0) (listOf (movedOf b)) (omega arith))
     ∙ sym (ap (λ (x : ℕ). extended n (listOf b ++ (x ∷ []))) (next-follows b) ∙ ap (extended n) (moved-along b))
 
-joined : (ks : List ℕ) (s : Work) → roundsOf ks (stream (length ks) (s .w)) (s .v) ≡ stepsOf ks s .v
-unfolding roundsOf stream stepOf stepsOf
+joined : (ks : List ℕ) (s : Work) → roundsOf ks (stream (length ks) (s .w)) (s .v) ≡ turnsOf ks s .v
+unfolding roundsOf stream turnOf turnsOf
 joined [] s = refl
-joined (k ∷ ks) s = joined ks (stepOf s k)
+joined (k ∷ ks) s = joined ks (turnOf s k)
 
 whole : (m : Block) (v : Vars)
     → roundsOf ks (scheduleOf (listOf m)) v
-    ≡ (stepsOf (quarter 48) (stepsOf (quarter 32) (stepsOf (quarter 16) (stepsOf (quarter 0) (record { v = v; w = m }))))) .v
-unfolding ks quarter stepsOf
+    ≡ (turnsOf (quarter 48) (turnsOf (quarter 32) (turnsOf (quarter 16) (turnsOf (quarter 0) (record { v = v; w = m }))))) .v
+unfolding ks quarter turnsOf
 whole m v = ap (λ (w : List ℕ). roundsOf ks w v) (sym (streamed 48 m)) ∙ joined ks (record { v = v; w = m })
-
--- a step from what the steps before it come to
-pub after : {x s y : Work} (k : ℕ) → y ≡ stepOf x k → x ≡ s → y ≡ stepOf s k
-after k p q = cc
-
--- some steps, and some more
-pub steps-more : (j k : List ℕ) (x : Work) {y z : Work} → y ≡ stepsOf j x → z ≡ stepsOf k y → z ≡ stepsOf (j ++ k) x
-unfolding stepsOf
-steps-more [] k x p q = cc
-steps-more (a ∷ j) k x p q = steps-more j k (stepOf x a) p q
 
 -- what the four calls of a compression, and the sum, come to
 pub compressed : (v : Vars) (m : Block) {x₀ x₁ x₂ x₃ : Work} {r : Vars}
-    → x₀ ≡ stepsOf (quarter 0) (record { v = v; w = m })
-    → x₁ ≡ stepsOf (quarter 16) x₀
-    → x₂ ≡ stepsOf (quarter 32) x₁
-    → x₃ ≡ stepsOf (quarter 48) x₂
+    → x₀ ≡ turnsOf (quarter 0) (record { v = v; w = m })
+    → x₁ ≡ turnsOf (quarter 16) x₀
+    → x₂ ≡ turnsOf (quarter 32) x₁
+    → x₃ ≡ turnsOf (quarter 48) x₂
     → r ≡ sumOf (x₃ .v) v → r ≡ compressOf v (listOf m)
 unfolding compressOf
 compressed v m e₀ e₁ e₂ e₃ e = cc (whole m v)

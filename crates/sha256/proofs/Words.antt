@@ -7,7 +7,7 @@ use lib.ListN.{drop}
 use lib.Seq.{drop-drop}
 use Rattle.sha256.specs.declared.Block.{Block}
 use Rattle.sha256.specs.Sha256.{wordOf, wordsOf}
-use Rattle.sha256.specs.Steps.{listOf}
+use Rattle.sha256.specs.Turns.{listOf}
 
 apart : (l : List ℕ) (at : ℕ) → wordsOf 16 (drop at l) ≡ wordOf (drop at l) ∷ wordOf (drop (at + 4) l) ∷ wordOf (drop (at + 8) l) ∷ wordOf (drop (at + 12) l) ∷ wordOf (drop (at + 16) l) ∷ wordOf (drop (at + 20) l) ∷ wordOf (drop (at + 24) l) ∷ wordOf (drop (at + 28) l) ∷ wordOf (drop (at + 32) l) ∷ wordOf (drop (at + 36) l) ∷ wordOf (drop (at + 40) l) ∷ wordOf (drop (at + 44) l) ∷ wordOf (drop (at + 48) l) ∷ wordOf (drop (at + 52) l) ∷ wordOf (drop (at + 56) l) ∷ wordOf (drop (at + 60) l) ∷ []
 unfolding wordsOf

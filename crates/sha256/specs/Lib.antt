@@ -1,4 +1,4 @@
 pub mod Sha256
 pub mod Hmac
 pub mod Running
-pub mod Steps
+pub mod Turns

@@ -6,19 +6,19 @@ use lib.ListN.{length, drop, replicate}
 use Rattle.sha256.specs.declared.Vars.{Vars}
 use Rattle.sha256.specs.declared.Running.{Running}
 use Rattle.sha256.specs.declared.Mac.{Mac}
-use Rattle.sha256.specs.Sha256.{valueOf, compressOf, wordsOf, hashOf}
+use Rattle.sha256.specs.Sha256.{hashValue, compressOf, wordsOf, hashOf}
 use Rattle.sha256.specs.Hmac.{keyed, hmacOf}
 
--- the bytes after the last whole block; a block that begins with t and goes on with zeros
+-- the bytes after the last whole block; the tail that holds t: t, and zeros up to a block
 abbrev pub left : List ℕ → List ℕ
 left m = drop (length m / 64 * 64) m
 
-abbrev pub room : List ℕ → List ℕ
-room t = t ++ replicate (64 - length t) 0
+abbrev pub tailOf : List ℕ → List ℕ
+tailOf t = t ++ replicate (64 - length t) 0
 
 -- the state after the bytes m: the hash value of its whole blocks, its length, and what is left
 unfoldable pub runningOf : List ℕ → Running
-runningOf m = record { v = valueOf m (length m / 64); len = length m % 2 ^ 64; tail = room (left m) }
+runningOf m = record { v = hashValue m (length m / 64); len = length m % 2 ^ 64; tail = tailOf (left m) }
 
 -- d takes st to r: where st is the state after m, r is the state after m ++ d
 abbrev pub Takes : Running → List ℕ → Running → Type 0

@@ -11,7 +11,7 @@ ghost use Prim.Native.Nat.{_+_, _/_, _≤_};
 ghost use mathlib.Core.List.{[], _∷_};
 ghost use lib.ListN.{length, drop};
 ghost use Rattle.sha256.specs.Sha256.{plus, Ch, Maj, three as threeOf, Sum0, Sum1, Sigma0, Sigma1, roundOf, sumOf, compressOf, wordOf, wordsOf, initial, hashOf, digestOf};
-ghost use Rattle.sha256.specs.Steps.{listOf, nextOf, movedOf, stepOf, stepsOf, quarter};
+ghost use Rattle.sha256.specs.Turns.{listOf, nextOf, movedOf, turnOf, turnsOf, quarter};
 ghost use Rattle.sha256.specs.Running.{foldsOf};
 
 // The initial hash value.
@@ -139,8 +139,9 @@ fn moved(b: Block) -> Block
     }
 }
 
-fn step(s: Work, k: u32) -> Work
-    ensures { λ r. ⌜ r ≡ stepOf s k ⌝ }
+// A round, and the words moved on.
+fn turn(s: Work, k: u32) -> Work
+    ensures { λ r. ⌜ r ≡ turnOf s k ⌝ }
 {
     let v = s.v;
     let w = s.w;
@@ -150,127 +151,71 @@ fn step(s: Work, k: u32) -> Work
     }
 }
 
-fn eight(s: Work, k0: u32, k1: u32, k2: u32, k3: u32, k4: u32, k5: u32, k6: u32, k7: u32) -> Work
-    ensures { λ r. ⌜ r ≡ stepsOf (k0 ∷ k1 ∷ k2 ∷ k3 ∷ k4 ∷ k5 ∷ k6 ∷ k7 ∷ []) s ⌝ }
+// Small enough to be put in where it is called, and so is each quarter, which is called once: the state stays in registers.
+fn two(s: Work, k: u32, l: u32) -> Work
+    ensures { λ r. ⌜ r ≡ turnOf (turnOf s k) l ⌝ }
 {
-    let mut x = s;
-    x = step(x, k0);
-    x = step(x, k1);
-    x = step(x, k2);
-    x = step(x, k3);
-    x = step(x, k4);
-    x = step(x, k5);
-    x = step(x, k6);
-    x = step(x, k7);
-    x
+    turn(turn(s, k), l)
 }
 
 fn rounds0(x: Work) -> Work
-    ensures { λ r. ⌜ r ≡ stepsOf (quarter 0) x ⌝ }
+    ensures { λ r. ⌜ r ≡ turnsOf (quarter 0) x ⌝ }
 {
-    let y = eight(
-        x,
-        0x428a_2f98,
-        0x7137_4491,
-        0xb5c0_fbcf,
-        0xe9b5_dba5,
-        0x3956_c25b,
-        0x59f1_11f1,
-        0x923f_82a4,
-        0xab1c_5ed5,
-    );
-    eight(
-        y,
-        0xd807_aa98,
-        0x1283_5b01,
-        0x2431_85be,
-        0x550c_7dc3,
-        0x72be_5d74,
-        0x80de_b1fe,
-        0x9bdc_06a7,
-        0xc19b_f174,
-    )
+    let mut s = x;
+    s = two(s, 0x428a_2f98, 0x7137_4491);
+    s = two(s, 0xb5c0_fbcf, 0xe9b5_dba5);
+    s = two(s, 0x3956_c25b, 0x59f1_11f1);
+    s = two(s, 0x923f_82a4, 0xab1c_5ed5);
+    s = two(s, 0xd807_aa98, 0x1283_5b01);
+    s = two(s, 0x2431_85be, 0x550c_7dc3);
+    s = two(s, 0x72be_5d74, 0x80de_b1fe);
+    s = two(s, 0x9bdc_06a7, 0xc19b_f174);
+    s
 }
 
 fn rounds16(x: Work) -> Work
-    ensures { λ r. ⌜ r ≡ stepsOf (quarter 16) x ⌝ }
+    ensures { λ r. ⌜ r ≡ turnsOf (quarter 16) x ⌝ }
 {
-    let y = eight(
-        x,
-        0xe49b_69c1,
-        0xefbe_4786,
-        0x0fc1_9dc6,
-        0x240c_a1cc,
-        0x2de9_2c6f,
-        0x4a74_84aa,
-        0x5cb0_a9dc,
-        0x76f9_88da,
-    );
-    eight(
-        y,
-        0x983e_5152,
-        0xa831_c66d,
-        0xb003_27c8,
-        0xbf59_7fc7,
-        0xc6e0_0bf3,
-        0xd5a7_9147,
-        0x06ca_6351,
-        0x1429_2967,
-    )
+    let mut s = x;
+    s = two(s, 0xe49b_69c1, 0xefbe_4786);
+    s = two(s, 0x0fc1_9dc6, 0x240c_a1cc);
+    s = two(s, 0x2de9_2c6f, 0x4a74_84aa);
+    s = two(s, 0x5cb0_a9dc, 0x76f9_88da);
+    s = two(s, 0x983e_5152, 0xa831_c66d);
+    s = two(s, 0xb003_27c8, 0xbf59_7fc7);
+    s = two(s, 0xc6e0_0bf3, 0xd5a7_9147);
+    s = two(s, 0x06ca_6351, 0x1429_2967);
+    s
 }
 
 fn rounds32(x: Work) -> Work
-    ensures { λ r. ⌜ r ≡ stepsOf (quarter 32) x ⌝ }
+    ensures { λ r. ⌜ r ≡ turnsOf (quarter 32) x ⌝ }
 {
-    let y = eight(
-        x,
-        0x27b7_0a85,
-        0x2e1b_2138,
-        0x4d2c_6dfc,
-        0x5338_0d13,
-        0x650a_7354,
-        0x766a_0abb,
-        0x81c2_c92e,
-        0x9272_2c85,
-    );
-    eight(
-        y,
-        0xa2bf_e8a1,
-        0xa81a_664b,
-        0xc24b_8b70,
-        0xc76c_51a3,
-        0xd192_e819,
-        0xd699_0624,
-        0xf40e_3585,
-        0x106a_a070,
-    )
+    let mut s = x;
+    s = two(s, 0x27b7_0a85, 0x2e1b_2138);
+    s = two(s, 0x4d2c_6dfc, 0x5338_0d13);
+    s = two(s, 0x650a_7354, 0x766a_0abb);
+    s = two(s, 0x81c2_c92e, 0x9272_2c85);
+    s = two(s, 0xa2bf_e8a1, 0xa81a_664b);
+    s = two(s, 0xc24b_8b70, 0xc76c_51a3);
+    s = two(s, 0xd192_e819, 0xd699_0624);
+    s = two(s, 0xf40e_3585, 0x106a_a070);
+    s
 }
 
 fn rounds48(x: Work) -> Work
-    ensures { λ r. ⌜ r ≡ stepsOf (quarter 48) x ⌝ }
+    ensures { λ r. ⌜ r ≡ turnsOf (quarter 48) x ⌝ }
 {
-    let y = eight(
-        x,
-        0x19a4_c116,
-        0x1e37_6c08,
-        0x2748_774c,
-        0x34b0_bcb5,
-        0x391c_0cb3,
-        0x4ed8_aa4a,
-        0x5b9c_ca4f,
-        0x682e_6ff3,
-    );
-    eight(
-        y,
-        0x748f_82ee,
-        0x78a5_636f,
-        0x84c8_7814,
-        0x8cc7_0208,
-        0x90be_fffa,
-        0xa450_6ceb,
-        0xbef9_a3f7,
-        0xc671_78f2,
-    )
+    let mut s = x;
+    s = two(s, 0x19a4_c116, 0x1e37_6c08);
+    s = two(s, 0x2748_774c, 0x34b0_bcb5);
+    s = two(s, 0x391c_0cb3, 0x4ed8_aa4a);
+    s = two(s, 0x5b9c_ca4f, 0x682e_6ff3);
+    s = two(s, 0x748f_82ee, 0x78a5_636f);
+    s = two(s, 0x84c8_7814, 0x8cc7_0208);
+    s = two(s, 0x90be_fffa, 0xa450_6ceb);
+    s = two(s, 0xbef9_a3f7, 0xc671_78f2);
+    s
 }
 
 // The hash value after one block more.

@@ -7,7 +7,7 @@ use native.Mathlib.Omega.{arith}
 use lib.ListN.{length, length-append}
 use Rattle.words.specs.Numbers.{Sized}
 use Rattle.sha256.specs.declared.Vars.{Vars}
-use Rattle.sha256.specs.Sha256.{padded, blockOf, compressOf, valueOf, hashOf, digestOf, sha256}
+use Rattle.sha256.specs.Sha256.{padded, blockOf, compressOf, hashValue, hashOf, digestOf, sha256}
 use Rattle.sha256.proofs.Digest.{digest-sized}
 use Rattle.sha256.proofs.Padded.{blocks-are}
 use Rattle.stretch.specs.declared.Stretcher.{Stretcher}
@@ -15,8 +15,8 @@ use Rattle.stretch.specs.Stretch.{compressed, compressions, hashed, star
 
 -- ---- the value
 
-compressions-value : (c : ℕ) (s : List ℕ) (n : ℕ) → compressions c s n .v ≡ valueOf s n
-unfolding compressions compressed valueOf
+compressions-value : (c : ℕ) (s : List ℕ) (n : ℕ) → compressions c s n .v ≡ hashValue s n
+unfolding compressions compressed hashValue
 compressions-value c s zero = refl
 compressions-value c s (suc n) = ap (λ (v : Vars). compressOf v (blockOf n s)) (compressions-value c s n)
 

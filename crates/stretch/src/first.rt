@@ -10,7 +10,7 @@ ghost use mathlib.Core.List.{_++_};
 ghost use Prim.Native.Nat.{_+_, _*_, _≤_};
 ghost use lib.ListN.{length, getD, take, drop};
 ghost use Rattle.sha256.specs.Sha256.{padding, padded};
-ghost use Rattle.sha256.specs.Steps.{listOf};
+ghost use Rattle.sha256.specs.Turns.{listOf};
 ghost use Rattle.stretch.specs.Stretch.{compressed as compressedOf, startOf};
 
 // One compression more.

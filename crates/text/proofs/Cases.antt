@@ -5,7 +5,7 @@ use mathlib.Core.Bool.{Bool, true, false, false≢true}
 use mathlib.Core.List.{List, [], _∷_, map}
 use lib.ListN.{getD, drop}
 use Rattle.text.specs.Grammar.{IsText}
-use Rattle.text.specs.Decision.{runs, textOf}
+use Rattle.text.specs.Decision.{endsWhole, textOf}
 use Rattle.text.proofs.Text.{text}
 
 abbrev pub texts : List (List ℕ)
@@ -73,7 +73,7 @@ each b P h [] e = tt
 each b P h (s ∷ ss) e = (h s (ap (λ (l : List Bool). getD l 0 b) e), each b P h ss (ap (λ (l : List Bool). drop 1 l) e))
 
 pub cases : Each IsText texts × Each (λ s. IsText s → ⊥) others
-unfolding runs
+unfolding endsWhole
 cases = (
   each true IsText (λ s. text s .0) texts refl,
   each false (λ s. IsText s → ⊥) (λ s e t. false≢true (sym e ∙ text s .1 t)) others refl,

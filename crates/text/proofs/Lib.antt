@@ -1,5 +1,5 @@
 pub mod Tests
-mod Runs
+mod Bytewise
 pub mod Grammar
 pub mod Text
 pub mod Cases

@@ -21,11 +21,11 @@ firstOf b =
     (cond (eqb b 0xf4) (More 3 0x80 0x8f) Bad))))))))
 
 -- what a byte lets follow, by what may come
-abbrev pub stepOf : Utf8 → ℕ → Utf8
-stepOf Start b = firstOf b
-stepOf (More left low high) b =
+abbrev pub afterByte : Utf8 → ℕ → Utf8
+afterByte Start b = firstOf b
+afterByte (More left low high) b =
     cond (ltb b low) Bad (cond (ltb high b) Bad (cond (leb left 1) Start (More (left - 1) 0x80 0xbf)))
-stepOf Bad b = Bad
+afterByte Bad b = Bad
 
 -- a character ends here
 abbrev pub whole : Utf8 → Bool
@@ -34,13 +34,13 @@ whole (More left low high) = false
 whole Bad = false
 
 -- whether the bytes, from a state on, end where a character ends
-unfoldable pub runs : Utf8 → List ℕ → Bool
-runs u [] = whole u
-runs u (b ∷ bs) = runs (stepOf u b) bs
+unfoldable pub endsWhole : Utf8 → List ℕ → Bool
+endsWhole u [] = whole u
+endsWhole u (b ∷ bs) = endsWhole (afterByte u b) bs
 
 -- well-formed UTF-8
 abbrev pub utf8Of : List ℕ → Bool
-utf8Of s = runs Start s
+utf8Of s = endsWhole Start s
 
 -- starts with the byte order mark
 abbrev pub markedOf : List ℕ → Bool

@@ -21,13 +21,13 @@ pub data Character : List ℕ → Type 0 where
   four-f1 : {b c d e : ℕ} → Within b 0xf1 0xf3 → Tail c → Tail d → Tail e → Character (b ∷ c ∷ d ∷ e ∷ [])
   four-f4 : {c d e : ℕ} → Within c 0x80 0x8f → Tail d → Tail e → Character (0xf4 ∷ c ∷ d ∷ e ∷ [])
 
--- a text: characters, one after the other
-pub data WellFormed : List ℕ → Type 0 where
-  end : WellFormed []
-  char : {xs ys : List ℕ} → Character xs → WellFormed ys → WellFormed (xs ++ ys)
+-- well-formed UTF-8: characters, one after the other
+pub data WellFormedUtf8 : List ℕ → Type 0 where
+  end : WellFormedUtf8 []
+  char : {xs ys : List ℕ} → Character xs → WellFormedUtf8 ys → WellFormedUtf8 (xs ++ ys)
 
 -- what a Text field holds: well-formed UTF-8, not starting EF BB BF and not ending in 00
 pub record IsText (s : List ℕ) : Type 0 where
-  pub utf8 : WellFormed s
+  pub utf8 : WellFormedUtf8 s
   pub no-mark : (t : List ℕ) → s ≡ 0xef ∷ 0xbb ∷ 0xbf ∷ t → ⊥
   pub no-zero : (t : List ℕ) → s ≡ t ++ (0x00 ∷ []) → ⊥

@@ -1,6 +1,6 @@
 // Text: well-formed UTF-8 with neither a byte order mark at its start nor a 00 at its end.
 ghost use mathlib.Core.Path.{_≡_};
-ghost use Rattle.text.specs.Decision.{firstOf, stepOf, utf8Of, markedOf, endsInZero, textOf};
+ghost use Rattle.text.specs.Decision.{firstOf, afterByte, utf8Of, markedOf, endsInZero, textOf};
 
 // What may come next: a first byte; so many further bytes, the next of them within bounds; nothing any more.
 pub enum Utf8 {
@@ -45,7 +45,7 @@ fn first(b: u8) -> Utf8
 
 // The next byte: what may come after it.
 fn step(u: Utf8, b: u8) -> Utf8
-    ensures { λ r. ⌜ r ≡ stepOf u b ⌝ }
+    ensures { λ r. ⌜ r ≡ afterByte u b ⌝ }
 {
     match u {
         Utf8::Start => first(b),

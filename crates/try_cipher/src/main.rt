@@ -1,14 +1,10 @@
 // The Twofish paper's vectors for keys of 256 bits, and both modes, printed. BACK is what decryption makes of CT.
 use twofish::blocks::decrypt_block;
 use twofish::blocks::encrypt_block;
+use words::hex::digit;
 
 fn put(s: &[u8]) {
     io::write_all(1, s);
-}
-
-fn digit(x: u8) -> u8 {
-    let d = x % 16;
-    if d < 10 { 48 + d } else { 55 + d }
 }
 
 fn hex(s: &[u8]) {

@@ -5,7 +5,7 @@ use mathlib.Core.List.{List, [], _∷_, map}
 use lib.ListN.{replicate}
 use Rattle.words.specs.Numbers.{numberLow, numberHigh, bytesLow, bytesHigh}
 use Rattle.words.specs.Rotation.{rotateRight}
-use Rattle.sha256.specs.Sha256.{three, ks, padding, wordOf, wordsOf, initial, back, following, extended, T1, T2, roundOf, roundsOf, sumOf, compressOf, valueOf, hashOf, digestOf, sha256}
+use Rattle.sha256.specs.Sha256.{three, ks, padding, wordOf, wordsOf, initial, back, following, extended, T1, T2, roundOf, roundsOf, sumOf, compressOf, hashValue, hashOf, digestOf, sha256}
 use Rattle.sha256.specs.Hmac.{keyBlock, keyed, hmacOf}
 
 -- (by the definitions, published): a message and a value are written as one number, highest byte first
@@ -21,11 +21,11 @@ published =
     ∷ []
 
 pub vectors : map (λ v. v .0) published ≡ map (λ v. v .1) published
-unfolding numberLow numberHigh bytesLow bytesHigh rotateRight three ks padding wordOf wordsOf initial back following extended T1 T2 roundOf roundsOf sumOf compressOf valueOf hashOf digestOf sha256 keyBlock keyed hmacOf
+unfolding numberLow numberHigh bytesLow bytesHigh rotateRight three ks padding wordOf wordsOf initial back following extended T1 T2 roundOf roundsOf sumOf compressOf hashValue hashOf digestOf sha256 keyBlock keyed hmacOf
 vectors = refl
 
 -- test case 6, whose key is longer than a block; by itself, since in the list it takes 0.7 GB more
 pub long-key : hmacOf (replicate 131 0xaa) (bytesHigh 54 0x54657374205573696e67204c6172676572205468616e20426c6f636b2d53697a65204b6579202d2048617368204b6579204669727374)
     ≡ bytesHigh 32 0x60e431591ee0b67f0d8a26aacbf5b77f8e0bc6213728c5140546040f0ee37f54
-unfolding numberLow numberHigh bytesLow bytesHigh rotateRight three ks padding wordOf wordsOf initial back following extended T1 T2 roundOf roundsOf sumOf compressOf valueOf hashOf digestOf sha256 keyBlock keyed hmacOf
+unfolding numberLow numberHigh bytesLow bytesHigh rotateRight three ks padding wordOf wordsOf initial back following extended T1 T2 roundOf roundsOf sumOf compressOf hashValue hashOf digestOf sha256 keyBlock keyed hmacOf
 long-key = refl

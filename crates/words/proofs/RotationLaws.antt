@@ -59,15 +59,15 @@ pub left-right : (w k x : ℕ) → k ≤ w → x < 2 ^ w → rotateLeft w k (rot
 unfolding rotateRight rotateLeft
 left-right w k x h hx = let e : w - k + k ≡ w = omega arith in back k (w - k) x (rw e hx)
 
-room : {b : ℕ} (a p q : ℕ) → a < p → b < q → a * q + b < p * q
-room {b} a p q ha hb =
+two-digits : {b : ℕ} (a p q : ℕ) → a < p → b < q → a * q + b < p * q
+two-digits {b} a p q ha hb =
     let s : suc a * q ≤ p * q = mul-le-mul-right q ha in
     let t : suc a * q ≡ a * q + q = suc-mul a q in
     omega arith
 
 turned-fits : (m n x : ℕ) → x < 2 ^ (n + m) → turned m n x < 2 ^ (m + n)
 turned-fits m n x h =
-    rw (pow-add 2 m n) (room (x % 2 ^ m) (2 ^ m) (2 ^ n) (mod-lt x (pow-pos m)) (shr-lt n m h))
+    rw (pow-add 2 m n) (two-digits (x % 2 ^ m) (2 ^ m) (2 ^ n) (mod-lt x (pow-pos m)) (shr-lt n m h))
 
 pub right-fits : (w k x : ℕ) → k ≤ w → x < 2 ^ w → rotateRight w k x < 2 ^ w
 unfolding rotateRight

@@ -1,4 +1,4 @@
--- `sha256::compression::compress` meets its contract: its steps are the rounds.
+-- `sha256::compression::compress` meets its contract: its turns are the rounds.
 use Rattle.sha256.proofs.Rounds.{compressed}
 use borrow.Author.Needs.{needs}
 use Rattle.sha256.proofs.compression.compress.Statement.{statement}

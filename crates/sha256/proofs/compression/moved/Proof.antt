@@ -1,5 +1,5 @@
 -- `sha256::compression::moved` meets its contract, from that of its call.
-use Rattle.sha256.specs.Steps.{movedOf}
+use Rattle.sha256.specs.Turns.{movedOf}
 use borrow.Author.Needs.{needs}
 use Rattle.sha256.proofs.compression.moved.Statement.{statement}
 use Rattle.sha256.proofs.compression.moved.Tie as tie

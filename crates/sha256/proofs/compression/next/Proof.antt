@@ -1,5 +1,5 @@
 -- `sha256::compression::next` meets its contract, from those of its calls.
-use Rattle.sha256.specs.Steps.{nextOf}
+use Rattle.sha256.specs.Turns.{nextOf}
 use borrow.Author.Needs.{needs}
 use Rattle.sha256.proofs.compression.next.Statement.{statement}
 use Rattle.sha256.proofs.compression.next.Tie as tie

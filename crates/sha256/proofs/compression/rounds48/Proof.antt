@@ -1,14 +1,24 @@
--- `sha256::compression::rounds48` meets its contract: eight steps, and eight more.
+-- `sha256::compression::rounds48` meets its contract: each two turns go on from those before them.
 use Rattle.sha256.specs.Sha256.{ks}
-use Rattle.sha256.proofs.Rounds.{steps-more}
-use Rattle.sha256.specs.Steps.{quarter}
+use Rattle.sha256.specs.Turns.{turnsOf, quarter}
 use borrow.Author.Needs.{needs}
 use Rattle.sha256.proofs.compression.rounds48.Statement.{statement}
 use Rattle.sha256.proofs.compression.rounds48.Tie as tie
 
 returns : tie.Need-returns
-unfolding ks quarter
-returns c = steps-more _ _ (c .before .before .args .x) (c .before .eight .ensures) (c .eight2 .ensures)
+unfolding ks quarter turnsOf
+returns c = cc
 
 pub rounds48-spec : {M : Type 1} → statement M
-rounds48-spec = tie.close (tie.spec (λ c κs. search needs) (λ c κs. search needs) returns)
+rounds48-spec =
+    tie.close
+    (tie.spec
+    (λ c κs. search needs)
+    (λ c κs. search needs)
+    (λ c κs. search needs)
+    (λ c κs. search needs)
+    (λ c κs. search needs)
+    (λ c κs. search needs)
+    (λ c κs. search needs)
+    (λ c κs. search needs)
+    returns)

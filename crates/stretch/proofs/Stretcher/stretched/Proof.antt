@@ -1,8 +1,9 @@
 -- `stretch::Stretcher::stretched` meets its contract. The invariant of its loop: the state after i steps.
 use mathlib.Core.Path.{_≡_, refl, ap, _∙_}
-use Prim.Native.Nat.{_≤_, _-_}
+use Prim.Native.Nat.{ℕ, _≤_, _+_, _-_}
 use native.Mathlib.Numerals.{add-one}
 use native.Mathlib.Omega.{arith}
+use Rattle.stretch.specs.declared.Stretcher.{Stretcher}
 use Rattle.stretch.specs.Stretch.{stepOf, stretchedOf}
 use borrow.Author.Needs.{needs}
 use Rattle.stretch.proofs.Stretcher.stretched.Statement.{statement}
@@ -18,9 +19,12 @@ loop-holds : tie.Need-loop-holds Inv-loop μ-loop
 unfolding stretchedOf
 loop-holds c = (search needs, refl)
 
-loop-again : tie.Need-loop-again Inv-loop μ-loop
+one-more : (i : ℕ) (s₀ : Stretcher) {s r : Stretcher} → s ≡ stretchedOf i s₀ → r ≡ stepOf s → r ≡ stretchedOf (i + 1) s₀
 unfolding stretchedOf
-loop-again c = (search needs, rw add-one (c .step .ensures ∙ ap stepOf (c .before .before .loop .inv .1)))
+one-more i s₀ e f = rw add-one (f ∙ ap stepOf e)
+
+loop-again : tie.Need-loop-again Inv-loop μ-loop
+loop-again c = (search needs, one-more (c .before .before .loop .i) _ (c .before .before .loop .inv .1) (c .step .ensures))
 
 returns : tie.Need-returns Inv-loop μ-loop
 returns c =
