@@ -8,12 +8,12 @@ use Rattle.words.specs.Numbers.{bytesLow, Sized}
 use Rattle.words.specs.Xor.{xored}
 use Rattle.words.proofs.NumberLaws.{bytes-sized}
 use Rattle.words.proofs.XorLaws.{xored-append, bytes-xor}
-use Rattle.twofish.specs.Twofish.{blockOf, bytesOf, encryptWords, decryptWords, encryptBlock, decryptBlock}
+use Rattle.twofish.specs.Twofish.{blockOf, blockBytes, encryptWords, decryptWords, encryptBlock, decryptBlock}
 use Rattle.twofish.specs.declared.Block.{Block}
 use Rattle.twofish.proofs.Rounds.{Words}
 use Rattle.twofish.proofs.Inverse.{block-words, bytes-block, block-bytes}
 use Rattle.chain.specs.Modes.{ecbE, ecbD, cbcE, cbcD}
-use Rattle.chain.specs.Blocks.{xorBlock, sealedBlock, openedBlock, modeE, modeD}
+use Rattle.chain.specs.Blocks.{xorBlock, wordsE, wordsD, modeE, modeD}
 use Rattle.chain.specs.Twofish.{twofishCipher}
 use Rattle.chain.specs.declared.Mode.{Mode}
 use Rattle.chain.specs.declared.Mode.the-variants.{Ecb, Cbc}
@@ -21,8 +21,8 @@ use Rattle.chain.specs.declared.Mode.the-variants.{Ecb, Cbc}
 word-length : (x y : ℕ) → length (bytesLow 4 x) ≡ length (bytesLow 4 y)
 word-length x y = bytes-sized 4 x .long ∙ sym (bytes-sized 4 y .long)
 
-xor-bytes : (x y : Block) → bytesOf (xorBlock x y) ≡ xored (bytesOf x) (bytesOf y)
-unfolding bytesOf
+xor-bytes : (x y : Block) → blockBytes (xorBlock x y) ≡ xored (blockBytes x) (blockBytes y)
+unfolding blockBytes
 xor-bytes x y =
     ap₂ _++_ (bytes-xor 4 (x .a) (y .a)) (ap₂ _++_ (bytes-xor 4 (x .b) (y .b)) (ap₂ _++_ (bytes-xor 4 (x .c) (y .c)) (bytes-xor 4 (x .d) (y .d))))
     ∙ sym
@@ -42,20 +42,20 @@ xor-words x y v w =
     }
 
 -- the words of 16 bytes with a block
-block-xor : (b : List ℕ) (p : Block) → Sized 16 b → Words p → blockOf (xored b (bytesOf p)) ≡ xorBlock (blockOf b) p
+block-xor : (b : List ℕ) (p : Block) → Sized 16 b → Words p → blockOf (xored b (blockBytes p)) ≡ xorBlock (blockOf b) p
 block-xor b p hb hp =
-    ap (λ (l : List ℕ). blockOf (xored l (bytesOf p))) (sym (bytes-block b hb))
+    ap (λ (l : List ℕ). blockOf (xored l (blockBytes p))) (sym (bytes-block b hb))
     ∙ ap blockOf (sym (xor-bytes (blockOf b) p))
     ∙ block-bytes (xorBlock (blockOf b) p) (xor-words (blockOf b) p (block-words b (hb .bytes)) hp)
 
-pub sealed-bytes : (mode : Mode) (k b : List ℕ) (p : Block) → Sized 16 b → Words p
-    → bytesOf (sealedBlock mode (encryptWords k) p (blockOf b)) ≡ modeE mode twofishCipher k (bytesOf p) b
-unfolding sealedBlock modeE ecbE cbcE encryptBlock
-sealed-bytes Ecb k b p hb hp = refl
-sealed-bytes Cbc k b p hb hp = sym (ap (λ (x : Block). bytesOf (encryptWords k x)) (block-xor b p hb hp))
+pub words-e : (mode : Mode) (k b : List ℕ) (p : Block) → Sized 16 b → Words p
+    → blockBytes (wordsE mode (encryptWords k) p (blockOf b)) ≡ modeE mode twofishCipher k (blockBytes p) b
+unfolding wordsE modeE ecbE cbcE encryptBlock
+words-e Ecb k b p hb hp = refl
+words-e Cbc k b p hb hp = sym (ap (λ (x : Block). blockBytes (encryptWords k x)) (block-xor b p hb hp))
 
-pub opened-bytes : (mode : Mode) (k b : List ℕ) (p : Block)
-    → bytesOf (openedBlock mode (decryptWords k) p (blockOf b)) ≡ modeD mode twofishCipher k (bytesOf p) b
-unfolding openedBlock modeD ecbD cbcD decryptBlock
-opened-bytes Ecb k b p = refl
-opened-bytes Cbc k b p = xor-bytes (decryptWords k (blockOf b)) p
+pub words-d : (mode : Mode) (k b : List ℕ) (p : Block)
+    → blockBytes (wordsD mode (decryptWords k) p (blockOf b)) ≡ modeD mode twofishCipher k (blockBytes p) b
+unfolding wordsD modeD ecbD cbcD decryptBlock
+words-d Ecb k b p = refl
+words-d Cbc k b p = xor-bytes (decryptWords k (blockOf b)) p

@@ -4,5 +4,5 @@ pub mod MemoryLaws
 pub mod TwofishLaws
 pub mod BlockLaws
 pub mod InPlace
-pub mod OpenLoop
-pub mod SealLoop
+pub mod DecryptLoop
+pub mod EncryptLoop

@@ -1,4 +1,4 @@
--- What a mode enciphers it deciphers again, and the other way round, over any block cipher with its laws: block by block, and then by recursion
+-- What a mode encrypts it decrypts again, and the other way round, over any block cipher with its laws: block by block, and then by recursion
 -- on the number of blocks.
 use Prim.Native.Nat.{ℕ, zero, suc, _*_}
 use mathlib.Core.Path.{_≡_, refl, ap, _∙_}
@@ -11,7 +11,7 @@ use Rattle.words.specs.Xor.{xored}
 use Rattle.words.proofs.ByteLaws.{sized-append, sized-take, sized-drop, resized}
 use Rattle.words.proofs.XorLaws.{xored-undo, sized-xored}
 use Rattle.chain.specs.Cipher.{Cipher, CipherLaws}
-use Rattle.chain.specs.Modes.{ecbE, ecbD, cbcE, cbcD, encipher, decipher}
+use Rattle.chain.specs.Modes.{ecbE, ecbD, cbcE, cbcD, encrypted, decrypted}
 
 -- a mode whose two directions undo each other on a block
 pub record ModeLaws (e d : List ℕ → List ℕ → List ℕ) : Type 0 where
@@ -51,50 +51,50 @@ empty [] h = refl
 empty (a ∷ l) h = absurd (omega arith)
 
 module _ (e d : List ℕ → List ℕ → List ℕ) (m : ModeLaws e d) where
-  pub encipher-sized : (n : ℕ) (p l : List ℕ) → Sized 16 p → Sized (16 * n) l → Sized (16 * n) (encipher e n p l)
-  unfolding encipher
-  encipher-sized zero p l hp h = record { long = refl; bytes = none }
-  encipher-sized (suc n) p l hp h =
+  pub encrypted-sized : (n : ℕ) (p l : List ℕ) → Sized 16 p → Sized (16 * n) l → Sized (16 * n) (encrypted e n p l)
+  unfolding encrypted
+  encrypted-sized zero p l hp h = record { long = refl; bytes = none }
+  encrypted-sized (suc n) p l hp h =
       let c = m .e-sized p (take 16 l) hp (sized-take 16 (16 * suc n) l (omega arith) h) in
       resized (omega arith)
-      (sized-append 16 (16 * n) (e p (take 16 l)) (encipher e n (e p (take 16 l)) (drop 16 l)) c
-      (encipher-sized n (e p (take 16 l)) (drop 16 l) c (sized-drop 16 (16 * suc n) (16 * n) l (omega arith) h)))
+      (sized-append 16 (16 * n) (e p (take 16 l)) (encrypted e n (e p (take 16 l)) (drop 16 l)) c
+      (encrypted-sized n (e p (take 16 l)) (drop 16 l) c (sized-drop 16 (16 * suc n) (16 * n) l (omega arith) h)))
 
-  pub decipher-sized : (n : ℕ) (p l : List ℕ) → Sized 16 p → Sized (16 * n) l → Sized (16 * n) (decipher d n p l)
-  unfolding decipher
-  decipher-sized zero p l hp h = record { long = refl; bytes = none }
-  decipher-sized (suc n) p l hp h =
+  pub decrypted-sized : (n : ℕ) (p l : List ℕ) → Sized 16 p → Sized (16 * n) l → Sized (16 * n) (decrypted d n p l)
+  unfolding decrypted
+  decrypted-sized zero p l hp h = record { long = refl; bytes = none }
+  decrypted-sized (suc n) p l hp h =
       let b = sized-take 16 (16 * suc n) l (omega arith) h in
       resized (omega arith)
-      (sized-append 16 (16 * n) (d p (take 16 l)) (decipher d n (take 16 l) (drop 16 l)) (m .d-sized p (take 16 l) hp b)
-      (decipher-sized n (take 16 l) (drop 16 l) b (sized-drop 16 (16 * suc n) (16 * n) l (omega arith) h)))
+      (sized-append 16 (16 * n) (d p (take 16 l)) (decrypted d n (take 16 l) (drop 16 l)) (m .d-sized p (take 16 l) hp b)
+      (decrypted-sized n (take 16 l) (drop 16 l) b (sized-drop 16 (16 * suc n) (16 * n) l (omega arith) h)))
 
-  pub decipher-encipher : (n : ℕ) (p l : List ℕ) → Sized 16 p → Sized (16 * n) l → decipher d n p (encipher e n p l) ≡ l
-  unfolding encipher decipher
-  decipher-encipher zero p l hp h = empty l (h .long)
-  decipher-encipher (suc n) p l hp h =
+  pub decrypted-encrypted : (n : ℕ) (p l : List ℕ) → Sized 16 p → Sized (16 * n) l → decrypted d n p (encrypted e n p l) ≡ l
+  unfolding encrypted decrypted
+  decrypted-encrypted zero p l hp h = empty l (h .long)
+  decrypted-encrypted (suc n) p l hp h =
       let b = sized-take 16 (16 * suc n) l (omega arith) h in
       let c = m .e-sized p (take 16 l) hp b in
-      let R = encipher e n (e p (take 16 l)) (drop 16 l) in
+      let R = encrypted e n (e p (take 16 l)) (drop 16 l) in
       rw (
         take-at (e p (take 16 l)) R 16 (c .long),
         drop-at (e p (take 16 l)) R 16 (c .long),
         m .d-e p (take 16 l) hp b,
-        decipher-encipher n (e p (take 16 l)) (drop 16 l) c (sized-drop 16 (16 * suc n) (16 * n) l (omega arith) h),
+        decrypted-encrypted n (e p (take 16 l)) (drop 16 l) c (sized-drop 16 (16 * suc n) (16 * n) l (omega arith) h),
       )
       (take-append-drop 16 l)
 
-  pub encipher-decipher : (n : ℕ) (p l : List ℕ) → Sized 16 p → Sized (16 * n) l → encipher e n p (decipher d n p l) ≡ l
-  unfolding encipher decipher
-  encipher-decipher zero p l hp h = empty l (h .long)
-  encipher-decipher (suc n) p l hp h =
+  pub encrypted-decrypted : (n : ℕ) (p l : List ℕ) → Sized 16 p → Sized (16 * n) l → encrypted e n p (decrypted d n p l) ≡ l
+  unfolding encrypted decrypted
+  encrypted-decrypted zero p l hp h = empty l (h .long)
+  encrypted-decrypted (suc n) p l hp h =
       let b = sized-take 16 (16 * suc n) l (omega arith) h in
       let c = m .d-sized p (take 16 l) hp b in
-      let R = decipher d n (take 16 l) (drop 16 l) in
+      let R = decrypted d n (take 16 l) (drop 16 l) in
       rw (
         take-at (d p (take 16 l)) R 16 (c .long),
         drop-at (d p (take 16 l)) R 16 (c .long),
         m .e-d p (take 16 l) hp b,
-        encipher-decipher n (take 16 l) (drop 16 l) b (sized-drop 16 (16 * suc n) (16 * n) l (omega arith) h),
+        encrypted-decrypted n (take 16 l) (drop 16 l) b (sized-drop 16 (16 * suc n) (16 * n) l (omega arith) h),
       )
       (take-append-drop 16 l)

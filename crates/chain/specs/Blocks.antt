@@ -12,13 +12,13 @@ abbrev pub xorBlock : Block → Block → Block
 xorBlock x y = record { a = bitXor (x .a) (y .a); b = bitXor (x .b) (y .b); c = bitXor (x .c) (y .c); d = bitXor (x .d) (y .d) }
 
 -- a block, by the cipher E or D on four words
-unfoldable pub sealedBlock : Mode → (Block → Block) → Block → Block → Block
-sealedBlock Ecb E prev x = E x
-sealedBlock Cbc E prev x = E (xorBlock x prev)
+unfoldable pub wordsE : Mode → (Block → Block) → Block → Block → Block
+wordsE Ecb E prev x = E x
+wordsE Cbc E prev x = E (xorBlock x prev)
 
-unfoldable pub openedBlock : Mode → (Block → Block) → Block → Block → Block
-openedBlock Ecb D prev x = D x
-openedBlock Cbc D prev x = xorBlock (D x) prev
+unfoldable pub wordsD : Mode → (Block → Block) → Block → Block → Block
+wordsD Ecb D prev x = D x
+wordsD Cbc D prev x = xorBlock (D x) prev
 
 -- the modes by their names
 unfoldable pub modeE : Mode → Cipher → List ℕ → List ℕ → List ℕ → List ℕ

@@ -3,8 +3,7 @@ use super::Mode;
 use twofish::Block;
 use twofish::blocks::bytes;
 use twofish::blocks::load;
-use twofish::cipher::decrypt;
-use twofish::cipher::encrypt;
+use twofish::cipher;
 use words::slices::copy;
 ghost use mathlib.Core.Path.{_≡_};
 ghost use lib.ListN.{length};
@@ -12,12 +11,12 @@ ghost use Rattle.words.specs.Slices.{copied};
 ghost use Rattle.twofish.specs.Table.{at};
 ghost use Rattle.twofish.specs.Key.{h};
 ghost use Rattle.twofish.specs.Cipher.{encrypt as encryptOf, decrypt as decryptOf};
-ghost use Rattle.twofish.specs.Twofish.{blockOf, bytesOf};
-ghost use Rattle.chain.specs.Blocks.{xorBlock, sealedBlock, openedBlock};
+ghost use Rattle.twofish.specs.Twofish.{blockOf, blockBytes};
+ghost use Rattle.chain.specs.Blocks.{xorBlock, wordsE, wordsD};
 
 // The block of 16 bytes.
 pub fn start(iv: &[u8]) -> Block
-    ensures { λ r. ⌜ (length (now (iv .entry)) ≡ 16 → bytesOf r ≡ now (iv .entry)) ⌝ }
+    ensures { λ r. ⌜ (length (now (iv .entry)) ≡ 16 → blockBytes r ≡ now (iv .entry)) ⌝ }
 {
     load(iv)
 }
@@ -33,7 +32,7 @@ fn xor(x: Block, y: Block) -> Block
     }
 }
 
-fn sealed(
+fn encrypt_words(
     mode: Mode,
     t0: &[u8; 256],
     t1: &[u8; 256],
@@ -42,15 +41,15 @@ fn sealed(
     prev: Block,
     x: Block,
 ) -> Block
-    ensures { λ r. ⌜ r ≡ sealedBlock mode (encryptOf (h (at (now (t0 .entry))) (at (now (t1 .entry))) (now (s .entry))) (at (now (k .entry)))) prev x ⌝ }
+    ensures { λ r. ⌜ r ≡ wordsE mode (encryptOf (h (at (now (t0 .entry))) (at (now (t1 .entry))) (now (s .entry))) (at (now (k .entry)))) prev x ⌝ }
 {
     match mode {
-        Mode::Ecb => encrypt(t0, t1, s, k, x),
-        Mode::Cbc => encrypt(t0, t1, s, k, xor(x, prev)),
+        Mode::Ecb => cipher::encrypt(t0, t1, s, k, x),
+        Mode::Cbc => cipher::encrypt(t0, t1, s, k, xor(x, prev)),
     }
 }
 
-fn opened(
+fn decrypt_words(
     mode: Mode,
     t0: &[u8; 256],
     t1: &[u8; 256],
@@ -59,16 +58,16 @@ fn opened(
     prev: Block,
     x: Block,
 ) -> Block
-    ensures { λ r. ⌜ r ≡ openedBlock mode (decryptOf (h (at (now (t0 .entry))) (at (now (t1 .entry))) (now (s .entry))) (at (now (k .entry)))) prev x ⌝ }
+    ensures { λ r. ⌜ r ≡ wordsD mode (decryptOf (h (at (now (t0 .entry))) (at (now (t1 .entry))) (now (s .entry))) (at (now (k .entry)))) prev x ⌝ }
 {
     match mode {
-        Mode::Ecb => decrypt(t0, t1, s, k, x),
-        Mode::Cbc => xor(decrypt(t0, t1, s, k, x), prev),
+        Mode::Ecb => cipher::decrypt(t0, t1, s, k, x),
+        Mode::Cbc => xor(cipher::decrypt(t0, t1, s, k, x), prev),
     }
 }
 
 // Both hand on the cipher block, which the next block is chained to.
-pub fn seal(
+pub fn encrypt(
     mode: Mode,
     t0: &[u8; 256],
     t1: &[u8; 256],
@@ -77,15 +76,15 @@ pub fn seal(
     prev: Block,
     b: &mut [u8],
 ) -> Block
-    ensures { λ r. ⌜ (r ≡ sealedBlock mode (encryptOf (h (at (now (t0 .entry))) (at (now (t1 .entry))) (now (s .entry))) (at (now (k .entry)))) prev (blockOf (now (b .entry)))) × (now (b .exit) ≡ copied (now (b .entry)) (bytesOf r)) ⌝ }
+    ensures { λ r. ⌜ (r ≡ wordsE mode (encryptOf (h (at (now (t0 .entry))) (at (now (t1 .entry))) (now (s .entry))) (at (now (k .entry)))) prev (blockOf (now (b .entry)))) × (now (b .exit) ≡ copied (now (b .entry)) (blockBytes r)) ⌝ }
 {
-    let x = sealed(mode, t0, t1, s, k, prev, load(b));
+    let x = encrypt_words(mode, t0, t1, s, k, prev, load(b));
     let t = bytes(x);
     copy(b, &t);
     x
 }
 
-pub fn unseal(
+pub fn decrypt(
     mode: Mode,
     t0: &[u8; 256],
     t1: &[u8; 256],
@@ -94,10 +93,10 @@ pub fn unseal(
     prev: Block,
     b: &mut [u8],
 ) -> Block
-    ensures { λ r. ⌜ (r ≡ blockOf (now (b .entry))) × (now (b .exit) ≡ copied (now (b .entry)) (bytesOf (openedBlock mode (decryptOf (h (at (now (t0 .entry))) (at (now (t1 .entry))) (now (s .entry))) (at (now (k .entry)))) prev r))) ⌝ }
+    ensures { λ r. ⌜ (r ≡ blockOf (now (b .entry))) × (now (b .exit) ≡ copied (now (b .entry)) (blockBytes (wordsD mode (decryptOf (h (at (now (t0 .entry))) (at (now (t1 .entry))) (now (s .entry))) (at (now (k .entry)))) prev r))) ⌝ }
 {
     let x = load(b);
-    let y = opened(mode, t0, t1, s, k, prev, x);
+    let y = decrypt_words(mode, t0, t1, s, k, prev, x);
     let t = bytes(y);
     copy(b, &t);
     x

@@ -14,9 +14,9 @@ use Rattle.words.specs.Numbers.{Bytes, Sized, numberLow, bytesLow}
 use Rattle.words.specs.Slices.{zeros}
 use Rattle.words.proofs.ByteLaws.{sized-take, sized-drop, sized-append, sized-zeros}
 use Rattle.words.proofs.NumberLaws.{bytes-sized}
-use Rattle.chain.specs.Modes.{ecbE, ecbD, cbcE, cbcD, encipher, decipher}
-use Rattle.chain.proofs.ModeLaws.{ecb-laws, cbc-laws, encipher-sized, decipher-sized, decipher-encipher, encipher-decipher}
-use Rattle.chain.proofs.StepLaws.{opened-done}
+use Rattle.chain.specs.Modes.{ecbE, ecbD, cbcE, cbcD, encrypted, decrypted}
+use Rattle.chain.proofs.ModeLaws.{ecb-laws, cbc-laws, encrypted-sized, decrypted-sized, decrypted-encrypted, encrypted-decrypted}
+use Rattle.chain.proofs.StepLaws.{decryption-done}
 use Rattle.file.specs.Layout.{Parts, split, join, listed, tag, marker, firstMarker}
 use Rattle.file.specs.Edition.{Edition, Stretched, Laws}
 use Rattle.file.specs.Description.{IsSafe, wrapped, cbc, partsOf, fileOf}
@@ -42,16 +42,16 @@ unfolding badLength
 is-length n a b c = rw (le-ltb n 232 a, le-ltb 4194304 n b, eq-eqb ((n - 200) % 16) 0 c)
 
 module _ (E : Edition) (X : Laws E) where
-  -- what was deciphered
-  pub keys-done : (k c : List ℕ) → keysOpened E k c .done ≡ decipher (ecbD (E .cipher) k) 4 (zeros 16) c
+  -- what was decrypted
+  pub keys-done : (k c : List ℕ) → keysOpened E k c .done ≡ decrypted (ecbD (E .cipher) k) 4 (zeros 16) c
   unfolding keysOpened
-  keys-done k c = opened-done (ecbD (E .cipher) k) 4 (zeros 16) c 0
+  keys-done k c = decryption-done (ecbD (E .cipher) k) 4 (zeros 16) c 0
 
-  pub body-done : (k iv : List ℕ) (n : ℕ) (c : List ℕ) (m : ℕ) → bodyOpened E k iv n c m .done ≡ decipher (cbcD (E .cipher) k) n iv c
+  pub body-done : (k iv : List ℕ) (n : ℕ) (c : List ℕ) (m : ℕ) → bodyOpened E k iv n c m .done ≡ decrypted (cbcD (E .cipher) k) n iv c
   unfolding bodyOpened
-  body-done k iv n c m = opened-done (cbcD (E .cipher) k) n iv c m
+  body-done k iv n c m = decryption-done (cbcD (E .cipher) k) n iv c m
 
-  -- the keys: deciphered and enciphered again, and the other way round
+  -- the keys: decrypted and encrypted again, and the other way round
   module _ (k : List ℕ) (hk : Sized 32 k) where
     abbrev ecb : List ℕ → List ℕ → List ℕ
     ecb = ecbE (E .cipher) k
@@ -60,14 +60,14 @@ module _ (E : Edition) (X : Laws E) where
     unecb = ecbD (E .cipher) k
 
     pub keys-sized : (c : List ℕ) → Sized 64 c → Sized 64 (keysOpened E k c .done)
-    keys-sized c h = rw (keys-done k c) (decipher-sized ecb unecb (ecb-laws (E .cipher) (X .ciphers) k hk) 4 (zeros 16) c (sized-zeros 16) h)
+    keys-sized c h = rw (keys-done k c) (decrypted-sized ecb unecb (ecb-laws (E .cipher) (X .ciphers) k hk) 4 (zeros 16) c (sized-zeros 16) h)
 
-    keys-again : (c : List ℕ) → Sized 64 c → encipher ecb 4 (zeros 16) (keysOpened E k c .done) ≡ c
-    keys-again c h = rw (keys-done k c) (encipher-decipher ecb unecb (ecb-laws (E .cipher) (X .ciphers) k hk) 4 (zeros 16) c (sized-zeros 16) h)
+    keys-again : (c : List ℕ) → Sized 64 c → encrypted ecb 4 (zeros 16) (keysOpened E k c .done) ≡ c
+    keys-again c h = rw (keys-done k c) (encrypted-decrypted ecb unecb (ecb-laws (E .cipher) (X .ciphers) k hk) 4 (zeros 16) c (sized-zeros 16) h)
 
-    keys-back : (l : List ℕ) → Sized 64 l → keysOpened E k (encipher ecb 4 (zeros 16) l) .done ≡ l
+    keys-back : (l : List ℕ) → Sized 64 l → keysOpened E k (encrypted ecb 4 (zeros 16) l) .done ≡ l
     keys-back l h =
-        rw (keys-done k (encipher ecb 4 (zeros 16) l)) (decipher-encipher ecb unecb (ecb-laws (E .cipher) (X .ciphers) k hk) 4 (zeros 16) l (sized-zeros 16) h)
+        rw (keys-done k (encrypted ecb 4 (zeros 16) l)) (decrypted-encrypted ecb unecb (ecb-laws (E .cipher) (X .ciphers) k hk) 4 (zeros 16) l (sized-zeros 16) h)
 
     -- the same of the body
     module _ (iv : List ℕ) (hi : Sized 16 iv) (m : ℕ) where
@@ -78,22 +78,22 @@ module _ (E : Edition) (X : Laws E) where
       unchained = cbcD (E .cipher) k
 
       pub body-sized : (n : ℕ) (c : List ℕ) → Sized (16 * n) c → Sized (16 * n) (bodyOpened E k iv n c m .done)
-      body-sized n c h = rw (body-done k iv n c m) (decipher-sized chained unchained (cbc-laws (E .cipher) (X .ciphers) k hk) n iv c hi h)
+      body-sized n c h = rw (body-done k iv n c m) (decrypted-sized chained unchained (cbc-laws (E .cipher) (X .ciphers) k hk) n iv c hi h)
 
       body-again : (n : ℕ) (c : List ℕ) → Sized (16 * n) c → cbc E k iv (bodyOpened E k iv n c m .done) ≡ c
       unfolding cbc
       body-again n c h =
           let b : length (bodyOpened E k iv n c m .done) / 16 ≡ n = omega (arith, body-sized n c h .long) in
-          rw (b, body-done k iv n c m) (encipher-decipher chained unchained (cbc-laws (E .cipher) (X .ciphers) k hk) n iv c hi h)
+          rw (b, body-done k iv n c m) (encrypted-decrypted chained unchained (cbc-laws (E .cipher) (X .ciphers) k hk) n iv c hi h)
 
       body-back : (n : ℕ) (l : List ℕ) → length l / 16 ≡ n → Sized (16 * n) l → bodyOpened E k iv n (cbc E k iv l) m .done ≡ l
       unfolding cbc
       body-back n l e h =
-          rw (e, body-done k iv n (encipher chained n iv l) m) (decipher-encipher chained unchained (cbc-laws (E .cipher) (X .ciphers) k hk) n iv l hi h)
+          rw (e, body-done k iv n (encrypted chained n iv l) m) (decrypted-encrypted chained unchained (cbc-laws (E .cipher) (X .ciphers) k hk) n iv l hi h)
 
       pub cbc-sized : (n : ℕ) (l : List ℕ) → length l / 16 ≡ n → Sized (16 * n) l → Sized (16 * n) (cbc E k iv l)
       unfolding cbc
-      cbc-sized n l e h = rw e (encipher-sized chained unchained (cbc-laws (E .cipher) (X .ciphers) k hk) n iv l hi h)
+      cbc-sized n l e h = rw e (encrypted-sized chained unchained (cbc-laws (E .cipher) (X .ciphers) k hk) n iv l hi h)
 
   -- accepted: a safe
   module _ (file pass : List ℕ) (ceiling room : ℕ) (fb : Bytes file) where
@@ -179,7 +179,7 @@ module _ (E : Edition) (X : Laws E) where
       salt-long = z .salt-sized .long;
       iter-long = bytes-sized 4 iter .long;
       check-long = X .check-sized pass salt iter .long;
-      keys-long = encipher-sized (ecbE (E .cipher) (key .key)) (ecbD (E .cipher) (key .key)) (ecb-laws (E .cipher) (X .ciphers) (key .key) (X .key-sized pass salt iter)) 4 (zeros 16) (K ++ L)
+      keys-long = encrypted-sized (ecbE (E .cipher) (key .key)) (ecbD (E .cipher) (key .key)) (ecb-laws (E .cipher) (X .ciphers) (key .key) (X .key-sized pass salt iter)) 4 (zeros 16) (K ++ L)
           (sized-zeros 16) (sized-append 32 32 K L (z .K-sized) (z .L-sized)) .long;
       iv-long = z .iv-sized .long;
       cipher-long = cbc-sized K (z .K-sized) iv (z .iv-sized) 0 k body refl body-is .long ∙ sym (body-is .long);

@@ -10,7 +10,7 @@ use borrow.Author.Tests.{ltb-false}
 use Rattle.words.specs.Numbers.{Bytes, numberLow}
 use Rattle.words.specs.Slices.{zeros}
 use Rattle.chain.specs.Modes.{ecbD, cbcD}
-use Rattle.chain.proofs.StepLaws.{opened-count}
+use Rattle.chain.proofs.StepLaws.{decryption-count}
 use Rattle.file.specs.Layout.{Parts, split, differ}
 use Rattle.file.specs.Edition.{Edition, Stretched, Laws, compressionsOf}
 use Rattle.file.specs.Reading.{Report, refused, accepted, keysOpened, bodyOpened, keyK, bodyOf, checked, readingOf}
@@ -26,8 +26,8 @@ module _ (E : Edition) (X : Laws E) where
   pub count-opened : (p : Parts) (s : Stretched) (n : ℕ) → bodyOf E p s n .count ≡ 4 + n
   unfolding keysOpened bodyOpened
   count-opened p s n =
-      opened-count (cbcD (E .cipher) (keyK E p s)) n (p .iv) (p .cipher) (keysOpened E (s .key) (p .keys) .count)
-      ∙ ap (λ (k : ℕ). k + n) (opened-count (ecbD (E .cipher) (s .key)) 4 (zeros 16) (p .keys) 0)
+      decryption-count (cbcD (E .cipher) (keyK E p s)) n (p .iv) (p .cipher) (keysOpened E (s .key) (p .keys) .count)
+      ∙ ap (λ (k : ℕ). k + n) (decryption-count (ecbD (E .cipher) (s .key)) 4 (zeros 16) (p .keys) 0)
 
   -- a reading that is refused by none of 1 to 7
   module _ (file pass : List ℕ) (ceiling room : ℕ) (fb : Bytes file) (h : Late (readingOf E file pass ceiling room .number)) where

@@ -7,8 +7,8 @@ use lib.Dec.{lit≤}
 use lib.ListN.{length, drop-of-length-le}
 use Rattle.words.specs.Numbers.{Bytes, numberLow}
 use Rattle.words.proofs.ByteLaws.{sized-take}
-use Rattle.chain.specs.Modes.{cbcD, decipher}
-use Rattle.chain.proofs.StepLaws.{opened-rest}
+use Rattle.chain.specs.Modes.{cbcD, decrypted}
+use Rattle.chain.proofs.StepLaws.{decryption-rest}
 use Rattle.file.specs.Layout.{split}
 use Rattle.file.specs.Edition.{Edition, Laws}
 use Rattle.file.specs.Reading.{keysOpened, bodyOpened, keyK, bodyOf}
@@ -22,7 +22,7 @@ module _ (E : Edition) (X : Laws E) (file pass : List ℕ) (ceiling room : ℕ) 
       → let s = E .stretched pass (split file .salt) (numberLow (split file .iter)) in
       let n = (length file - 200) / 16 in
       let o = bodyOf E (split file) s n in
-      (o .done ≡ decipher (cbcD (E .cipher) (keyK E (split file) s)) n (split file .iv) (split file .cipher)) × (length (o .done) ≡ length file - 200) × (o .rest ≡ []) × (o .count ≡ 4 + n) × Bytes (o .done)
+      (o .done ≡ decrypted (cbcD (E .cipher) (keyK E (split file) s)) n (split file .iv) (split file .cipher)) × (length (o .done) ≡ length file - 200) × (o .rest ≡ []) × (o .count ≡ 4 + n) × Bytes (o .done)
   unfolding bodyOpened
   whole-body e =
       let p = split file in
@@ -38,7 +38,7 @@ module _ (E : Edition) (X : Laws E) (file pass : List ℕ) (ceiling room : ℕ) 
       n (p .cipher) (record { long = l .cipher-long ∙ long; bytes = b .cipher-bytes }) in (
         body-done E X (keyK E p s) (p .iv) n (p .cipher) (ks .count),
         hb .long ∙ sym long,
-        opened-rest (cbcD (E .cipher) (keyK E p s)) n (p .iv) (p .cipher) (ks .count) ∙ drop-of-length-le (p .cipher) {i = 16 * n} (omega (arith, l .cipher-long)),
+        decryption-rest (cbcD (E .cipher) (keyK E p s)) n (p .iv) (p .cipher) (ks .count) ∙ drop-of-length-le (p .cipher) {i = 16 * n} (omega (arith, l .cipher-long)),
         count-opened E X p s n,
         hb .bytes,
       )

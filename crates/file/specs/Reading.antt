@@ -8,7 +8,7 @@ use lib.ListN.{length, take, drop}
 use Rattle.words.specs.Numbers.{numberLow}
 use Rattle.words.specs.Slices.{zeros}
 use Rattle.chain.specs.Modes.{ecbD, cbcD}
-use Rattle.chain.specs.Opening.{Opening, opening, step, run}
+use Rattle.chain.specs.Decryption.{Decryption, decryption, step, run}
 use Rattle.file.specs.Layout.{Parts, split, tag, differ, firstMarker}
 use Rattle.file.specs.Refusals.{Test, refuse-if, deciding}
 use Rattle.file.specs.Edition.{Edition, Stretched}
@@ -57,11 +57,11 @@ module _ (E : Edition) where
       ∷ []
 
   -- the two keys decrypted; then the body, whose count goes on from theirs
-  unfoldable pub keysOpened : (P′ keys : List ℕ) → Opening
-  keysOpened P′ keys = run (step (ecbD (E .cipher) P′)) 4 (opening (zeros 16) keys 0)
+  unfoldable pub keysOpened : (P′ keys : List ℕ) → Decryption
+  keysOpened P′ keys = run (step (ecbD (E .cipher) P′)) 4 (decryption (zeros 16) keys 0)
 
-  unfoldable pub bodyOpened : (K iv : List ℕ) → ℕ → List ℕ → ℕ → Opening
-  bodyOpened K iv n cipher count = run (step (cbcD (E .cipher) K)) n (opening iv cipher count)
+  unfoldable pub bodyOpened : (K iv : List ℕ) → ℕ → List ℕ → ℕ → Decryption
+  bodyOpened K iv n cipher count = run (step (cbcD (E .cipher) K)) n (decryption iv cipher count)
 
   abbrev pub keyK : Parts → Stretched → List ℕ
   keyK p s = take 32 (keysOpened (s .key) (p .keys) .done)
@@ -70,11 +70,11 @@ module _ (E : Edition) where
   keyL p s = drop 32 (keysOpened (s .key) (p .keys) .done)
 
   -- the whole body decrypted
-  abbrev pub bodyOf : Parts → Stretched → ℕ → Opening
+  abbrev pub bodyOf : Parts → Stretched → ℕ → Decryption
   bodyOf p s n = bodyOpened (keyK p s) (p .iv) n (p .cipher) (keysOpened (s .key) (p .keys) .count)
 
   -- accepted: the report's counts are those of the last states
-  unfoldable pub accepted : (K L : List ℕ) → ℕ → Opening → Report
+  unfoldable pub accepted : (K L : List ℕ) → ℕ → Decryption → Report
   accepted K L c o =
       record {
         number = 0;
@@ -91,7 +91,7 @@ module _ (E : Edition) where
   unfoldable pub bodyTests : (L mac body : List ℕ) → List Test
   bodyTests L mac body = refuse-if 9 (not (E .wellFormed body)) ∷ refuse-if 9 (differ (E .hmac L (E .covered body)) mac) ∷ []
 
-  unfoldable pub judged : (K L mac : List ℕ) → ℕ → Opening → Report
+  unfoldable pub judged : (K L mac : List ℕ) → ℕ → Decryption → Report
   judged K L mac c o = deciding (λ k. refused k c (o .count)) (bodyTests L mac (o .done)) (accepted K L c o)
 
   -- 8: SHA-256 of P' differs

@@ -12,7 +12,7 @@ use Rattle.sha256.specs.Sha256.{sha256}
 use Rattle.sha256.specs.Hmac.{hmacOf}
 use Rattle.stretch.specs.Stretch.{startOf, stepOf, stretchedOf, keyOf}
 use Rattle.stretch.proofs.Counts.{step-key}
-use Rattle.chain.specs.Modes.{ecbE, cbcE, cbcD, encipher, decipher}
+use Rattle.chain.specs.Modes.{ecbE, cbcE, cbcD, encrypted, decrypted}
 use Rattle.chain.specs.Twofish.{twofishCipher}
 use Rattle.body.specs.Sections.{covered}
 use Rattle.body.specs.WellFormed.{WellFormed}
@@ -98,9 +98,9 @@ pub file-described : {passphrase file salt : List ℕ} {iter : ℕ} {K L iv body
     ∷ salt
     ∷ bytesLow 4 iter
     ∷ sha256 P′
-    ∷ encipher (ecbE twofishCipher P′) 4 (zeros 16) (K ++ L)
+    ∷ encrypted (ecbE twofishCipher P′) 4 (zeros 16) (K ++ L)
     ∷ iv
-    ∷ encipher (cbcE twofishCipher K) (length body / 16) iv body
+    ∷ encrypted (cbcE twofishCipher K) (length body / 16) iv body
     ∷ marker
     ∷ hmacOf L (z .covered)
     ∷ [])
@@ -273,7 +273,7 @@ module _ {file passphrase before after : List ℕ} {ceiling : ℕ} {r : Reading}
   -- Unless the reading ends in 1 to 8, the state that the count belongs to, before any zeroing, is the whole body decrypted, of which nothing is left.
   pub counts-state : (OneToSeven (numberOf r) → ⊥) → (numberOf r ≡ 8 → ⊥) → let o = lastState passphrase file in
       (r .blocks ≡ o .count)
-      × (o .done ≡ decipher (cbcD twofishCipher (keyKIn passphrase file)) (blocksIn file) (ivIn file) (encryptedIn file))
+      × (o .done ≡ decrypted (cbcD twofishCipher (keyKIn passphrase file)) (blocksIn file) (ivIn file) (encryptedIn file))
       × (length (o .done) ≡ length file - 200)
       × (o .rest ≡ [])
   unfolding v3 split
@@ -281,7 +281,7 @@ module _ {file passphrase before after : List ℕ} {ceiling : ℕ} {r : Reading}
       let o = lastState passphrase file in
       told (λ n a b. (OneToSeven n → ⊥) → (n ≡ 8 → ⊥)
       → (b ≡ o .count)
-      × (o .done ≡ decipher (cbcD twofishCipher (keyKIn passphrase file)) (blocksIn file) (ivIn file) (encryptedIn file))
+      × (o .done ≡ decrypted (cbcD twofishCipher (keyKIn passphrase file)) (blocksIn file) (ivIn file) (encryptedIn file))
       × (length (o .done) ≡ length file - 200)
       × (o .rest ≡ []))
       (λ past checked.

@@ -8,11 +8,11 @@ use lib.ListN.{length, take, drop, length-append, length-drop, drop-of-length-le
 use lib.Seq.{take-all, length-take-le}
 use Rattle.words.specs.Slices.{zeros}
 use Rattle.chain.specs.Modes.{ecbD, cbcD, ecbE}
-use Rattle.chain.specs.Opening.{Opening, opening, step, run}
-use Rattle.chain.specs.Memory.{opened, sealed, Handed}
+use Rattle.chain.specs.Decryption.{Decryption, decryption, step, run}
+use Rattle.chain.specs.Memory.{decryptedInPlace, encryptedInPlace, Handed}
 use Rattle.chain.specs.Twofish.{twofishCipher}
-use Rattle.chain.proofs.MemoryLaws.{whole, sealed-whole}
-use Rattle.chain.proofs.StepLaws.{opened-count, opened-rest}
+use Rattle.chain.proofs.MemoryLaws.{whole, encrypted-whole}
+use Rattle.chain.proofs.StepLaws.{decryption-count, decryption-rest}
 use Rattle.file.specs.Layout.{split}
 use Rattle.file.specs.Description.{wrapped}
 use Rattle.file.specs.Reading.{keysOpened, bodyOpened}
@@ -20,25 +20,25 @@ use Rattle.safe.specs.V3.{v3}
 use Rattle.safe.specs.Steps.{Unwrapped, Decrypted}
 
 module _ (d : List ℕ → List ℕ → List ℕ) (n : ℕ) (prev l : List ℕ) (c : ℕ) (h : length l ≡ 16 * n) (k : c + n < 2 ^ 64) where
-  abbrev o : Opening
-  o = run (step d) n (opening prev l c)
+  abbrev o : Decryption
+  o = run (step d) n (decryption prev l c)
 
-  opened-is : opened d prev l c ≡ o
-  unfolding opened
-  opened-is = ap (λ (m : ℕ). run (step d) m (opening prev l c)) (whole n l h)
+  opened-is : decryptedInPlace d prev l c ≡ o
+  unfolding decryptedInPlace
+  opened-is = ap (λ (m : ℕ). run (step d) m (decryption prev l c)) (whole n l h)
 
-  -- all of the memory is deciphered
-  pub handed : {w : List ℕ} {r : ℕ} → Handed (opened d prev l c) w r → (w ≡ o .done) × (r ≡ o .count)
+  -- all of the memory is decrypted
+  pub handed : {w : List ℕ} {r : ℕ} → Handed (decryptedInPlace d prev l c) w r → (w ≡ o .done) × (r ≡ o .count)
   handed x =
-      let rest : o .rest ≡ [] = opened-rest d n prev l c ∙ drop-of-length-le l {i = 16 * n} (omega arith) in
-      let count : o .count ≡ c + n = opened-count d n prev l c in (
-        x .text ∙ ap (λ (s : Opening). s .done ++ s .rest) opened-is ∙ ap (λ (y : List ℕ). o .done ++ y) rest ∙ append-nil (o .done),
-        x .blocks ∙ ap (λ (s : Opening). s .count % 2 ^ 64) opened-is ∙ mod-eq-of-lt (omega arith),
+      let rest : o .rest ≡ [] = decryption-rest d n prev l c ∙ drop-of-length-le l {i = 16 * n} (omega arith) in
+      let count : o .count ≡ c + n = decryption-count d n prev l c in (
+        x .text ∙ ap (λ (s : Decryption). s .done ++ s .rest) opened-is ∙ ap (λ (y : List ℕ). o .done ++ y) rest ∙ append-nil (o .done),
+        x .blocks ∙ ap (λ (s : Decryption). s .count % 2 ^ 64) opened-is ∙ mod-eq-of-lt (omega arith),
       )
 
 -- the two keys
 pub unwrapped : (key keys w : List ℕ) {a b : List ℕ} {r : ℕ} → length keys ≡ 64
-    → Handed (opened (ecbD twofishCipher key) (zeros 16) keys 0) w r → a ≡ take 32 w → b ≡ take 32 (drop 32 w) → length w ≡ 64
+    → Handed (decryptedInPlace (ecbD twofishCipher key) (zeros 16) keys 0) w r → a ≡ take 32 w → b ≡ take 32 (drop 32 w) → length w ≡ 64
     → Unwrapped key keys (record { k = a; l = b; count = r })
 unfolding keysOpened v3
 unwrapped key keys w h x p q n =
@@ -51,12 +51,12 @@ unwrapped key keys w h x p q n =
     }
 
 -- the body
-pub decrypted : (k iv file w l : List ℕ) (c : ℕ) {r : ℕ} → length file ≡ 200 + 16 * ((length file - 200) / 16) → c + length file < 2 ^ 64
+pub body-decrypted : (k iv file w l : List ℕ) (c : ℕ) {r : ℕ} → length file ≡ 200 + 16 * ((length file - 200) / 16) → c + length file < 2 ^ 64
     → iv ≡ split file .iv → l ≡ split file .cipher
-    → Handed (opened (cbcD twofishCipher k) iv l c) w r
+    → Handed (decryptedInPlace (cbcD twofishCipher k) iv l c) w r
     → Decrypted (bodyOpened v3 k (split file .iv) ((length file - 200) / 16) (split file .cipher) c) w r
 unfolding bodyOpened v3 split
-decrypted k iv file w l c h i p q x =
+body-decrypted k iv file w l c h i p q x =
     let n : length (take (length file - 200) (drop 152 file)) ≡ 16 * ((length file - 200) / 16) =
     let d = length-drop 152 file in length-take-le (length file - 200) (drop 152 file) (omega arith) ∙ omega arith in
     let t = handed (cbcD twofishCipher k) ((length file - 200) / 16) (split file .iv) (split file .cipher) c n (omega arith) (rw (p, q) at x) in
@@ -64,7 +64,7 @@ decrypted k iv file w l c h i p q x =
 
 -- the keys wrapped again
 pub wrapped-is : (key K L w m : List ℕ) → length K ≡ 32 → length L ≡ 32 → m ≡ K ++ L
-    → w ≡ sealed (ecbE twofishCipher key) (zeros 16) m → w ≡ wrapped v3 key K L
+    → w ≡ encryptedInPlace (ecbE twofishCipher key) (zeros 16) m → w ≡ wrapped v3 key K L
 unfolding wrapped v3
 wrapped-is key K L w m h k e x =
-    x ∙ ap (sealed (ecbE twofishCipher key) (zeros 16)) e ∙ sealed-whole (ecbE twofishCipher key) 4 (zeros 16) (K ++ L) (simp length-append (omega arith))
+    x ∙ ap (encryptedInPlace (ecbE twofishCipher key) (zeros 16)) e ∙ encrypted-whole (ecbE twofishCipher key) 4 (zeros 16) (K ++ L) (simp length-append (omega arith))

@@ -17,8 +17,8 @@ use Rattle.body.specs.Decision.{wellFormed, coveredOf, headersOf, recordsOf}
 use Rattle.body.specs.declared.Judged.{Judged}
 use Rattle.body.specs.declared.Judged.the-variants.{Counts, NotWellFormed}
 use Rattle.chain.specs.Modes.{ecbD}
-use Rattle.chain.specs.Opening.{Opening}
-use Rattle.chain.proofs.StepLaws.{opened-count}
+use Rattle.chain.specs.Decryption.{Decryption}
+use Rattle.chain.proofs.StepLaws.{decryption-count}
 use Rattle.words.proofs.ByteLaws.{drop-same}
 use Rattle.file.specs.Layout.{Parts, split, firstMarker}
 use Rattle.file.specs.Refusals.{deciding}
@@ -117,7 +117,7 @@ marker-from file n h e =
     e ∙ ap₂ firstMarker k t
 
 -- the body's verdict is the report
-module _ (K L mac : List ℕ) (c : ℕ) (o : Opening) where
+module _ (K L mac : List ℕ) (c : ℕ) (o : Decryption) where
   abbrev body : List ℕ
   body = o .done
 
@@ -147,7 +147,7 @@ module _ (file key : List ℕ) (n c : ℕ) (s : Stretched) (e : s .key ≡ key) 
   abbrev p : Parts
   p = split file
 
-  abbrev o : Opening
+  abbrev o : Decryption
   o = bodyOf v3 p s n
 
   K-is : kk .k ≡ keyK v3 p s
@@ -162,10 +162,10 @@ module _ (file key : List ℕ) (n c : ℕ) (s : Stretched) (e : s .key ≡ key) 
       (u .count ∙ ap (λ (y : List ℕ). keysOpened v3 y (p .keys) .count) (sym e))
 
   text-is : w ≡ o .done
-  text-is = x .text ∙ ap (λ (y : Opening). y .done) state-is
+  text-is = x .text ∙ ap (λ (y : Decryption). y .done) state-is
 
   blocks-are : blocks ≡ o .count
-  blocks-are = x .blocks ∙ ap (λ (y : Opening). y .count) state-is
+  blocks-are = x .blocks ∙ ap (λ (y : Decryption). y .count) state-is
 
   module _ (mac body : List ℕ) (m : mac ≡ p .mac) (b : body ≡ w) {j : Judged} (v : j ≡ verdictOf (kk .l) mac body) where
     verdict-is : verdictOf (keyL v3 p s) (p .mac) (o .done) ≡ j
@@ -193,7 +193,7 @@ module _ (file key : List ℕ) (n c : ℕ) (s : Stretched) (e : s .key ≡ key) 
 -- four blocks of keys
 pub keys-count : (key keys : List ℕ) {kk : Keys} → Unwrapped key keys kk → kk .count ≡ 4
 unfolding keysOpened
-keys-count key keys u = u .count ∙ opened-count (ecbD (v3 .cipher) key) 4 (zeros 16) keys 0
+keys-count key keys u = u .count ∙ decryption-count (ecbD (v3 .cipher) key) 4 (zeros 16) keys 0
 
 -- the stretcher's states are the edition's
 pub stretched-is : (pass salt : List ℕ) (n : ℕ) {st c : Stretcher} {i : ℕ} → st ≡ stretchedOf i (startOf pass salt) → i ≡ n → c ≡ stepOf st

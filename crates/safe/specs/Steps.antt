@@ -9,7 +9,7 @@ use Rattle.sha256.specs.Hmac.{hmacOf}
 use Rattle.body.specs.Decision.{wellFormed, coveredOf, headersOf, recordsOf}
 use Rattle.body.specs.declared.Judged.{Judged}
 use Rattle.body.specs.declared.Judged.the-variants.{Counts, NotWellFormed}
-use Rattle.chain.specs.Opening.{Opening}
+use Rattle.chain.specs.Decryption.{Decryption}
 use Rattle.file.specs.Reading.{Report, keysOpened, workspaceOf}
 use Rattle.safe.specs.V3.{v3}
 use Rattle.safe.specs.Answers.{reported}
@@ -23,7 +23,7 @@ pub record Unwrapped (key keys : List ℕ) (r : Keys) : Type 0 where
   pub count : r .count ≡ keysOpened v3 key keys .count
 
 -- the whole body decrypted: the memory holds that state's text, and the answer is that state's own count
-pub record Decrypted (o : Opening) (memory : List ℕ) (count : ℕ) : Type 0 where
+pub record Decrypted (o : Decryption) (memory : List ℕ) (count : ℕ) : Type 0 where
   pub text : memory ≡ o .done
   pub blocks : count ≡ o .count
 

@@ -7,7 +7,7 @@ use lib.ListN.{length, take, drop, length-drop}
 use lib.Seq.{length-take-le}
 use Rattle.file.specs.Layout.{split}
 use Rattle.words.proofs.SliceLaws.{copied-over}
-use Rattle.safe.proofs.Opened.{decrypted}
+use Rattle.safe.proofs.Opened.{body-decrypted}
 use borrow.Author.Needs.{needs}
 use Rattle.safe.proofs.open.decrypt.Statement.{statement}
 use Rattle.safe.proofs.open.decrypt.Tie as tie
@@ -22,7 +22,7 @@ returns c =
     let d = length-drop 152 f in
     let l : length (take (length f - 48 - 152) (drop 152 f)) ≡ length f - 200 = ap (λ (k : ℕ). length (take k (drop 152 f))) m ∙ length-take-le (length f - 200) (drop 152 f) (omega arith) in
     let q : length (now (s .args .work)) ≡ length (take (length f - 48 - 152) (drop 152 f)) = omega arith in
-    decrypted (now (s .args .k)) _ f _ _ (s .args .count) (h .0) (omega (arith, h .2, h .3)) (c .before .before .before .before .before .before .before .before .before .before .value16 .ensures)
+    body-decrypted (now (s .args .k)) _ f _ _ (s .args .count) (h .0) (omega (arith, h .2, h .3)) (c .before .before .before .before .before .before .before .before .before .before .value16 .ensures)
     (c .before .before .before .before .before .before .before .copy .ensures ∙ copied-over (now (s .args .work)) (take (length f - 48 - 152) (drop 152 f)) q ∙ ap (λ (k : ℕ). take k (drop 152 f)) m)
     (c .before .before .cbc-decrypt .ensures)
 

@@ -1,5 +1,5 @@
 -- `twofish::blocks::decrypt_block` meets its contract: the cipher on four words, with what the key makes of the tables.
-use Rattle.twofish.specs.Twofish.{bytesOf, decryptBlock, decryptWords}
+use Rattle.twofish.specs.Twofish.{blockBytes, decryptBlock, decryptWords}
 use Rattle.twofish.specs.declared.Block.{Block}
 use Rattle.twofish.proofs.Keyed.{decrypts}
 use mathlib.Core.Path.{ap, _∙_}
@@ -15,8 +15,8 @@ returns c =
     let x = c .before .before .load in
     let decrypted = decrypts key (tables .before .before .before .before .before .table .ensures) (tables .before .before .before .before .table2 .ensures) (tables .before .before .before .box-key .ensures) (tables .subkeys .ensures) (x .result) in
     c .bytes .ensures
-    ∙ ap bytesOf (c .before .decrypt .ensures ∙ decrypted)
-    ∙ ap (λ (z : Block). bytesOf (decryptWords key z)) (x .ensures)
+    ∙ ap blockBytes (c .before .decrypt .ensures ∙ decrypted)
+    ∙ ap (λ (z : Block). blockBytes (decryptWords key z)) (x .ensures)
 
 pub decrypt-block-spec : {M : Type 1} → statement M
 decrypt-block-spec =

@@ -1,4 +1,4 @@
--- `chain::memory::encipher` meets its contract: after j turns the memory has the definition's first j cipher blocks, and then what is left of the text.
+-- `chain::memory::encrypt` meets its contract: after j turns the memory has the definition's first j cipher blocks, and then what is left of the text.
 use borrow.Author.Needs.{needs}
 use mathlib.Core.Path.{_≡_, refl, fun-ext}
 use Prim.Native.Nat.{_-_, _/_, _≤_}
@@ -9,14 +9,14 @@ use Rattle.words.proofs.ByteLaws.{bytes-of}
 use Rattle.twofish.proofs.Keyed.{encrypts}
 use Rattle.chain.specs.Blocks.{modeE}
 use Rattle.chain.specs.Twofish.{twofishCipher}
-use Rattle.chain.proofs.MemoryLaws.{refused-seal, all-sealed}
-use Rattle.chain.proofs.SealLoop.{Sealed, sealed-start, sealed-next, sealed-end}
-use Rattle.chain.proofs.memory.encipher.Statement.{statement}
-use Rattle.chain.proofs.memory.encipher.Tie as tie
+use Rattle.chain.proofs.MemoryLaws.{refused-encrypt, all-encrypted}
+use Rattle.chain.proofs.EncryptLoop.{Encrypting, encrypting-start, encrypting-next, encrypting-end}
+use Rattle.chain.proofs.memory.encrypt.Statement.{statement}
+use Rattle.chain.proofs.memory.encrypt.Tie as tie
 
 abbrev Inv-loop : tie.InvT-loop
 Inv-loop mode key iv work₀ t0 t1 s k n prev₀ j₀ work prev j =
-    (n ≡ length work₀ / 16) × (j ≤ n) × Sealed (modeE mode twofishCipher key) n iv work₀ j work prev
+    (n ≡ length work₀ / 16) × (j ≤ n) × Encrypting (modeE mode twofishCipher key) n iv work₀ j work prev
 
 abbrev μ-loop : tie.MeasureT-loop
 μ-loop mode key iv work₀ t0 t1 s k n prev₀ j₀ work prev j = n - j
@@ -24,7 +24,7 @@ abbrev μ-loop : tie.MeasureT-loop
 returns : tie.Need-returns Inv-loop μ-loop
 returns c =
     let a = c .before .before .args in
-    refused-seal (modeE (a .mode) twofishCipher (a .key .now)) (a .iv .now) (a .work .now) (c .if1 .taken)
+    refused-encrypt (modeE (a .mode) twofishCipher (a .key .now)) (a .iv .now) (a .work .now) (c .if1 .taken)
 
 loop-holds : tie.Need-loop-holds Inv-loop μ-loop
 loop-holds c =
@@ -33,13 +33,13 @@ loop-holds c =
     let p = c .start in (
       refl,
       omega arith,
-      sealed-start (a .mode) (a .key .now) (length l / 16) (a .iv .now) l (p .result) (p .ensures (c .before .start-arg .given .0))
+      encrypting-start (a .mode) (a .key .now) (length l / 16) (a .iv .now) l (p .result) (p .ensures (c .before .start-arg .given .0))
           (record { fa = search needs; fb = search needs; fc = search needs; fd = search needs }),
     )
 
 loop-again : tie.Need-loop-again Inv-loop μ-loop
 loop-again c =
-    let u = c .before .before .seal in
+    let u = c .before .before .encrypt in
     let turn = c .before .before .before .before .before .before .before .before in
     let l = turn .before .loop in
     let made = turn .before .before .before .before in
@@ -51,7 +51,7 @@ loop-again c =
     let E = fun-ext (encrypts key (made .before .before .before .before .before .table .ensures) (made .before .before .before .before .table2 .ensures) (made .before .before .before .box-key .ensures) (made .subkeys .ensures)) in (
       refl,
       omega (arith, turn .loop-test .taken),
-      sealed-next (a .mode) key (length m / 16) (a .iv .now) m E (l .j) (l .work) (l .prev) (l .inv .2) bytes (turn .loop-test .taken)
+      encrypting-next (a .mode) key (length m / 16) (a .iv .now) m E (l .j) (l .work) (l .prev) (l .inv .2) bytes (turn .loop-test .taken)
           (omega (arith, turn .loop-test .taken)) (u .result) (u .last .1 .1 .1 .1 .1 .1 .0)
           (record { fa = omega (arith, u .ok); fb = omega (arith, u .ok); fc = omega (arith, u .ok); fd = omega (arith, u .ok) }) (u .ensures .0) (u .ensures .1),
     )
@@ -62,11 +62,11 @@ returns-2 c =
     let l = c .before .loop in
     let e = modeE (a .mode) twofishCipher (a .key .now) in
     let n = length (a .work .now) / 16 in
-    all-sealed e n (a .iv .now) (a .work .now) (omega (arith, c .before .before .before .before .before .before .before .before .before .before .if1 .left))
-    (sealed-end e n (a .iv .now) (a .work .now) (l .inv .2) (omega (arith, c .loop-test .left)))
+    all-encrypted e n (a .iv .now) (a .work .now) (omega (arith, c .before .before .before .before .before .before .before .before .before .before .if1 .left))
+    (encrypting-end e n (a .iv .now) (a .work .now) (l .inv .2) (omega (arith, c .loop-test .left)))
 
-pub encipher-spec : {M : Type 1} → statement M
-encipher-spec =
+pub encrypt-spec : {M : Type 1} → statement M
+encrypt-spec =
     tie.close
     (tie.spec
     Inv-loop
