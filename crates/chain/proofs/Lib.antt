@@ -1,8 +1,7 @@
 pub mod ModeLaws
 pub mod StepLaws
 pub mod MemoryLaws
-pub mod TwofishLaws
 pub mod BlockLaws
 pub mod InPlace
-pub mod DecryptLoop
-pub mod EncryptLoop
+pub mod Turns
+pub mod TwofishLaws

@@ -1,5 +1,5 @@
 -- What the calls leave in a memory of n whole blocks: the n blocks encrypted or decrypted, and the count n past that of the earlier stage.
-use Prim.Native.Nat.{ℕ, _*_, _/_, _%_, _^_, _<_, _≤_}
+use Prim.Native.Nat.{ℕ, _+_, _*_, _/_, _%_, _^_, _<_, _≤_}
 use mathlib.Core.Path.{_≡_, refl, sym, ap, ap₂, _∙_}
 use mathlib.Core.Bool.{Bool, true, false, cond}
 use mathlib.Core.List.{List, [], _++_, append-nil}
@@ -9,9 +9,10 @@ use borrow.Author.Tests.{eq-eqb, ne-eqb, le-leb, lt-leb}
 use lib.ListN.{length, take, drop, drop-of-length-le}
 use lib.Seq.{take-all, take-at, drop-at}
 use Rattle.words.specs.Slices.{copied}
-use Rattle.chain.specs.Modes.{encrypted}
-use Rattle.chain.specs.Decryption.{decryption, step, run}
+use Rattle.chain.specs.Modes.{encrypted, decrypted}
+use Rattle.chain.specs.Decryption.{decryption, run}
 use Rattle.chain.specs.Memory.{wholeBlocks, encryptedInPlace, encryptedInto, decryptedInPlace, Handed}
+use Rattle.chain.proofs.StepLaws.{decryption-done, decryption-count, decryption-rest}
 
 pub whole : (n : ℕ) (l : List ℕ) → length l ≡ 16 * n → wholeBlocks l ≡ n
 unfolding wholeBlocks
@@ -83,6 +84,11 @@ module _ (d : List ℕ → List ℕ → List ℕ) where
   refused-decrypt p l c h k = rw (blocks-none l h) (record { text = refl; blocks = omega arith })
 
   pub all-decrypted : (n : ℕ) (p l : List ℕ) (c : ℕ) {w : List ℕ} {r : ℕ} → length l ≡ 16 * n
-      → Handed (run (step d) n (decryption p l c)) w r → Handed (decryptedInPlace d p l c) w r
+      → w ≡ decrypted d n p l ++ drop (16 * n) l → r ≡ (c + n) % 2 ^ 64 → Handed (decryptedInPlace d p l c) w r
   unfolding decryptedInPlace
-  all-decrypted n p l c h g = rw (whole n l h) g
+  all-decrypted n p l c h g k =
+      rw (whole n l h)
+      (record {
+        text = g ∙ sym (ap₂ _++_ (decryption-done d n p l c) (decryption-rest d n p l c));
+        blocks = k ∙ sym (ap (λ (m : ℕ). m % 2 ^ 64) (decryption-count d n p l c));
+      })

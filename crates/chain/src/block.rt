@@ -6,17 +6,14 @@ use twofish::blocks::load;
 use twofish::cipher;
 use words::slices::copy;
 ghost use mathlib.Core.Path.{_≡_};
-ghost use lib.ListN.{length};
-ghost use Rattle.words.specs.Slices.{copied};
-ghost use Rattle.twofish.specs.Table.{at};
-ghost use Rattle.twofish.specs.Key.{h};
-ghost use Rattle.twofish.specs.Cipher.{encrypt as encryptOf, decrypt as decryptOf};
-ghost use Rattle.twofish.specs.Twofish.{blockOf, blockBytes};
-ghost use Rattle.chain.specs.Blocks.{xorBlock, wordsE, wordsD};
+ghost use Rattle.words.specs.Numbers.{Bytes};
+ghost use Rattle.twofish.specs.Twofish.{blockOf};
+ghost use Rattle.twofish.specs.Tabled.{tabledEncrypt, tabledDecrypt};
+ghost use Rattle.chain.specs.Blocks.{xorBlock, wordsE, wordsD, EncryptedBlock, DecryptedBlock};
 
-// The block of 16 bytes.
+// The block that the first one is chained to. That an array holds bytes is known where it is lent as a slice: so it is said here.
 pub fn start(iv: &[u8]) -> Block
-    ensures { λ r. ⌜ (length (now (iv .entry)) ≡ 16 → blockBytes r ≡ now (iv .entry)) ⌝ }
+    ensures { λ r. ⌜ (r ≡ blockOf (now (iv .entry))) × Bytes (now (iv .entry)) ⌝ }
 {
     load(iv)
 }
@@ -41,7 +38,7 @@ fn encrypt_words(
     prev: Block,
     x: Block,
 ) -> Block
-    ensures { λ r. ⌜ r ≡ wordsE mode (encryptOf (h (at (now (t0 .entry))) (at (now (t1 .entry))) (now (s .entry))) (at (now (k .entry)))) prev x ⌝ }
+    ensures { λ r. ⌜ r ≡ wordsE mode (tabledEncrypt (now (t0 .entry)) (now (t1 .entry)) (now (s .entry)) (now (k .entry))) prev x ⌝ }
 {
     match mode {
         Mode::Ecb => cipher::encrypt(t0, t1, s, k, x),
@@ -58,7 +55,7 @@ fn decrypt_words(
     prev: Block,
     x: Block,
 ) -> Block
-    ensures { λ r. ⌜ r ≡ wordsD mode (decryptOf (h (at (now (t0 .entry))) (at (now (t1 .entry))) (now (s .entry))) (at (now (k .entry)))) prev x ⌝ }
+    ensures { λ r. ⌜ r ≡ wordsD mode (tabledDecrypt (now (t0 .entry)) (now (t1 .entry)) (now (s .entry)) (now (k .entry))) prev x ⌝ }
 {
     match mode {
         Mode::Ecb => cipher::decrypt(t0, t1, s, k, x),
@@ -76,7 +73,8 @@ pub fn encrypt(
     prev: Block,
     b: &mut [u8],
 ) -> Block
-    ensures { λ r. ⌜ (r ≡ wordsE mode (encryptOf (h (at (now (t0 .entry))) (at (now (t1 .entry))) (now (s .entry))) (at (now (k .entry)))) prev (blockOf (now (b .entry)))) × (now (b .exit) ≡ copied (now (b .entry)) (blockBytes r)) ⌝ }
+    ensures { λ r. ⌜ EncryptedBlock mode (tabledEncrypt (now (t0 .entry)) (now (t1 .entry)) (now (s .entry)) (now (k .entry)))
+        prev (now (b .entry)) (now (b .exit)) r ⌝ }
 {
     let x = encrypt_words(mode, t0, t1, s, k, prev, load(b));
     let t = bytes(x);
@@ -93,7 +91,8 @@ pub fn decrypt(
     prev: Block,
     b: &mut [u8],
 ) -> Block
-    ensures { λ r. ⌜ (r ≡ blockOf (now (b .entry))) × (now (b .exit) ≡ copied (now (b .entry)) (blockBytes (wordsD mode (decryptOf (h (at (now (t0 .entry))) (at (now (t1 .entry))) (now (s .entry))) (at (now (k .entry)))) prev r))) ⌝ }
+    ensures { λ r. ⌜ DecryptedBlock mode (tabledDecrypt (now (t0 .entry)) (now (t1 .entry)) (now (s .entry)) (now (k .entry)))
+        prev (now (b .entry)) (now (b .exit)) r ⌝ }
 {
     let x = load(b);
     let y = decrypt_words(mode, t0, t1, s, k, prev, x);

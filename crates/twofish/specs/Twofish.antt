@@ -2,7 +2,7 @@
 use Prim.Native.Nat.{ℕ, _+_}
 use mathlib.Core.List.{List, [], _∷_, _++_}
 use Rattle.words.specs.Numbers.{numberLow, bytesLow}
-use Rattle.twofish.specs.Table.{at}
+use Rattle.words.specs.Table.{at}
 use Rattle.twofish.specs.Q.{q0, q1}
 use Rattle.twofish.specs.Key.{subkeys, g}
 use Rattle.twofish.specs.Cipher.{encrypt, decrypt}

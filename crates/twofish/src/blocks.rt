@@ -10,7 +10,7 @@ use words::numbers::byte;
 use words::numbers::low;
 ghost use mathlib.Core.Path.{_≡_};
 ghost use Prim.Native.Nat.{_<_};
-ghost use Rattle.twofish.specs.Table.{at as atOf};
+ghost use Rattle.words.specs.Table.{at as atOf};
 ghost use Rattle.twofish.specs.Twofish.{wordAt, blockOf, blockBytes, encryptBlock, decryptBlock};
 
 // Byte i, 0 past the end.

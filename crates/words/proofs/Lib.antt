@@ -5,3 +5,4 @@ pub mod XorLaws
 pub mod SliceLaws
 pub mod Every
 pub mod Places
+pub mod Tables

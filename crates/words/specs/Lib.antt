@@ -2,3 +2,4 @@ pub mod Numbers
 pub mod Rotation
 pub mod Xor
 pub mod Slices
+pub mod Table

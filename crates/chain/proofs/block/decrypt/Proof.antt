@@ -8,10 +8,11 @@ use Rattle.chain.proofs.block.decrypt.Tie as tie
 
 returns : tie.Need-returns
 returns c =
-    let l = c .before .before .before .before .before .before .before .before .before .before .args .b .now in (
-      c .before .before .before .before .before .before .before .load .ensures,
-      c .before .before .copy .ensures ∙ ap (copied l) (c .before .before .before .before .before .bytes .ensures ∙ ap blockBytes (c .before .before .before .before .before .before .decrypt-words .ensures)),
-    )
+    let l = c .before .before .before .before .before .before .before .before .before .before .args .b .now in
+    record {
+      block = c .before .before .before .before .before .before .before .load .ensures;
+      memory = c .before .before .copy .ensures ∙ ap (copied l) (c .before .before .before .before .before .bytes .ensures ∙ ap blockBytes (c .before .before .before .before .before .before .decrypt-words .ensures));
+    }
 
 pub decrypt-spec : {M : Type 1} → statement M
 decrypt-spec =

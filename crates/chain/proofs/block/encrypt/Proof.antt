@@ -8,7 +8,7 @@ use Rattle.chain.proofs.block.encrypt.Tie as tie
 returns : tie.Need-returns
 returns c =
     let l = c .before .before .before .before .before .before .before .before .before .before .args .b .now in
-    (cc, c .before .before .copy .ensures ∙ ap (copied l) (c .before .before .before .before .before .bytes .ensures))
+    record { block = cc; memory = c .before .before .copy .ensures ∙ ap (copied l) (c .before .before .before .before .before .bytes .ensures) }
 
 pub encrypt-spec : {M : Type 1} → statement M
 encrypt-spec =

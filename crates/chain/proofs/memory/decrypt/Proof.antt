@@ -1,23 +1,24 @@
--- `chain::memory::decrypt` meets its contract: after j turns memory, block before and count stand at the definition's state after j steps.
+-- `chain::memory::decrypt` meets its contract: after j turns the memory has the definition's first j blocks of text, and then what is left of the cipher text; the count has gone on by j.
 use borrow.Author.Needs.{needs}
-use mathlib.Core.Path.{_≡_, refl, subst, fun-ext}
-use Prim.Native.Nat.{ℕ, _-_, _/_, _≤_}
+use mathlib.Core.Path.{_≡_, refl, sym, ap, _∙_, subst}
+use mathlib.Core.List.{List, _++_}
+use Prim.Native.Nat.{ℕ, _+_, _-_, _*_, _/_, _%_, _^_, _≤_}
 use native.Mathlib.Omega.{arith}
-use lib.ListN.{length}
-use Rattle.words.specs.Numbers.{Bytes}
+use lib.ListN.{length, drop}
+use Rattle.words.specs.Numbers.{Bytes, Sized}
 use Rattle.words.proofs.ByteLaws.{bytes-of}
-use Rattle.twofish.proofs.Keyed.{decrypts}
-use Rattle.chain.specs.Decryption.{decryption, step, run}
+use Rattle.twofish.specs.declared.Block.{Block}
 use Rattle.chain.specs.Blocks.{modeD}
 use Rattle.chain.specs.Twofish.{twofishCipher}
 use Rattle.chain.proofs.MemoryLaws.{refused-decrypt, all-decrypted}
-use Rattle.chain.proofs.DecryptLoop.{Decrypting, decrypting-start, decrypting-next, decrypting-end}
+use Rattle.chain.proofs.Turns.{taken, through-d, Turned, turned-start, turned-end, decrypt-turn}
+use Rattle.chain.proofs.TwofishLaws.{tabled-dec}
 use Rattle.chain.proofs.memory.decrypt.Statement.{statement}
 use Rattle.chain.proofs.memory.decrypt.Tie as tie
 
 abbrev Inv-loop : tie.InvT-loop
 Inv-loop mode key iv work₀ count t0 t1 s k n prev₀ c₀ j₀ work prev c j =
-    (n ≡ length work₀ / 16) × (j ≤ n) × Decrypting (run (step (modeD mode twofishCipher key)) j (decryption iv work₀ count)) work₀ j work prev c
+    (n ≡ length work₀ / 16) × (j ≤ n) × Turned (modeD mode twofishCipher key) taken n iv work₀ j work prev × (c ≡ (count + j) % 2 ^ 64)
 
 abbrev μ-loop : tie.MeasureT-loop
 μ-loop mode key iv work₀ count t0 t1 s k n prev₀ c₀ j₀ work prev c j = n - j
@@ -28,11 +29,11 @@ returns c =
     refused-decrypt (modeD (a .mode) twofishCipher (a .key .now)) (a .iv .now) (a .work .now) (a .count) (c .if1 .taken) (search needs)
 
 loop-holds : tie.Need-loop-holds Inv-loop μ-loop
-unfolding run
 loop-holds c =
     let a = c .before .before .before .before .before .before .before .before .before .before .args in
-    let p = c .start in
-    (refl, omega arith, decrypting-start (a .iv .now) (a .work .now) (a .count) (p .result) (p .ensures (c .before .start-arg .given .0)) (search needs))
+    let iv = a .iv .now in
+    let sized : Sized 16 iv = record { long = c .before .start-arg .given .0; bytes = c .start .ensures .1 } in
+    (refl, omega arith, subst (Turned _ _ _ iv (a .work .now) 0 (a .work .now)) (sym (c .start .ensures .0)) (turned-start _ _ (length (a .work .now) / 16) iv (a .work .now) sized), omega arith)
 
 loop-again : tie.Need-loop-again Inv-loop μ-loop
 loop-again c =
@@ -42,26 +43,25 @@ loop-again c =
     let made = turn .before .before .before .before in
     let begun = made .before .before .before .before .before .before .before in
     let a = begun .before .args in
-    let key = a .key .now in
-    let bytes : Bytes (a .work .now) = bytes-of (a .work .now) (λ i. omega (arith, begun .slice-known .given i)) in
-    let D = fun-ext (decrypts key (made .before .before .before .before .before .table .ensures) (made .before .before .before .before .table2 .ensures) (made .before .before .before .box-key .ensures) (made .subkeys .ensures)) in (
+    let does = tabled-dec (a .key .now) (made .before .before .before .before .before .table .ensures) (made .before .before .before .before .table2 .ensures) (made .before .before .before .box-key .ensures) (made .subkeys .ensures) in
+    let bytes : Bytes (a .work .now) = bytes-of (a .work .now) (λ i. omega (arith, begun .slice-known .given i)) in (
       refl,
       omega (arith, turn .loop-test .taken),
-      decrypting-next (a .mode) key (a .work .now) D (a .iv .now) (a .count) (l .j) (l .work) (l .prev) (l .c) (l .inv .2) bytes
-          (omega (arith, turn .loop-test .taken)) (u .result) (u .last .1 .1 .1 .1 .1 .1 .0) (c .wrapping-add-u64 .result) (u .ensures .0) (u .ensures .1)
-          (c .wrapping-add-u64 .ensures),
+      decrypt-turn twofishCipher (a .key .now) (a .mode) (length (a .work .now) / 16) (a .iv .now) (a .work .now) bytes does (l .inv .2) (turn .loop-test .taken)
+          (omega (arith, turn .loop-test .taken)) (u .result) (u .last .1 .1 .1 .1 .1 .1 .0) (u .ensures),
+      omega (arith, l .inv .3, c .wrapping-add-u64 .ensures),
     )
 
 returns-2 : tie.Need-returns-2 Inv-loop μ-loop
 returns-2 c =
     let a = c .before .before .before .before .before .before .before .before .before .before .before .before .args in
     let l = c .before .loop in
-    let d = modeD (a .mode) twofishCipher (a .key .now) in
-    let n = length (a .work .now) / 16 in
-    let s = decryption (a .iv .now) (a .work .now) (a .count) in
-    let e : l .j ≡ n = omega (arith, c .loop-test .left) in
-    all-decrypted d n (a .iv .now) (a .work .now) (a .count) (omega (arith, c .before .before .before .before .before .before .before .before .before .before .if1 .left))
-    (decrypting-end (subst (λ (i : ℕ). Decrypting (run (step d) i s) (a .work .now) i (l .work) (l .prev) (l .c)) e (l .inv .2)))
+    let f = modeD (a .mode) twofishCipher (a .key .now) in
+    let w = a .work .now in
+    let n = length w / 16 in
+    let done = turned-end _ _ n (a .iv .now) w (l .inv .2) (omega (arith, c .loop-test .left)) in
+    all-decrypted f n (a .iv .now) w (a .count) (omega (arith, c .before .before .before .before .before .before .before .before .before .before .if1 .left))
+    (done ∙ ap (λ (x : List ℕ). x ++ drop (16 * n) w) (through-d f n (a .iv .now) w)) (omega (arith, l .inv .3, c .loop-test .left))
 
 pub decrypt-spec : {M : Type 1} → statement M
 decrypt-spec =

@@ -1,22 +1,24 @@
 -- `chain::memory::encrypt` meets its contract: after j turns the memory has the definition's first j cipher blocks, and then what is left of the text.
 use borrow.Author.Needs.{needs}
-use mathlib.Core.Path.{_≡_, refl, fun-ext}
-use Prim.Native.Nat.{_-_, _/_, _≤_}
+use mathlib.Core.Path.{_≡_, refl, sym, ap, _∙_, subst}
+use mathlib.Core.List.{List, _++_}
+use Prim.Native.Nat.{ℕ, _+_, _-_, _*_, _/_, _%_, _^_, _≤_}
 use native.Mathlib.Omega.{arith}
-use lib.ListN.{length}
-use Rattle.words.specs.Numbers.{Bytes}
+use lib.ListN.{length, drop}
+use Rattle.words.specs.Numbers.{Bytes, Sized}
 use Rattle.words.proofs.ByteLaws.{bytes-of}
-use Rattle.twofish.proofs.Keyed.{encrypts}
+use Rattle.twofish.specs.declared.Block.{Block}
 use Rattle.chain.specs.Blocks.{modeE}
 use Rattle.chain.specs.Twofish.{twofishCipher}
 use Rattle.chain.proofs.MemoryLaws.{refused-encrypt, all-encrypted}
-use Rattle.chain.proofs.EncryptLoop.{Encrypting, encrypting-start, encrypting-next, encrypting-end}
+use Rattle.chain.proofs.Turns.{through-e, Turned, turned-start, turned-end, encrypt-turn}
+use Rattle.chain.proofs.TwofishLaws.{tabled-enc}
 use Rattle.chain.proofs.memory.encrypt.Statement.{statement}
 use Rattle.chain.proofs.memory.encrypt.Tie as tie
 
 abbrev Inv-loop : tie.InvT-loop
 Inv-loop mode key iv work₀ t0 t1 s k n prev₀ j₀ work prev j =
-    (n ≡ length work₀ / 16) × (j ≤ n) × Encrypting (modeE mode twofishCipher key) n iv work₀ j work prev
+    (n ≡ length work₀ / 16) × (j ≤ n) × Turned (modeE mode twofishCipher key) (modeE mode twofishCipher key) n iv work₀ j work prev
 
 abbrev μ-loop : tie.MeasureT-loop
 μ-loop mode key iv work₀ t0 t1 s k n prev₀ j₀ work prev j = n - j
@@ -29,13 +31,9 @@ returns c =
 loop-holds : tie.Need-loop-holds Inv-loop μ-loop
 loop-holds c =
     let a = c .before .before .before .before .before .before .before .before .before .before .args in
-    let l = a .work .now in
-    let p = c .start in (
-      refl,
-      omega arith,
-      encrypting-start (a .mode) (a .key .now) (length l / 16) (a .iv .now) l (p .result) (p .ensures (c .before .start-arg .given .0))
-          (record { fa = search needs; fb = search needs; fc = search needs; fd = search needs }),
-    )
+    let iv = a .iv .now in
+    let sized : Sized 16 iv = record { long = c .before .start-arg .given .0; bytes = c .start .ensures .1 } in
+    (refl, omega arith, subst (Turned _ _ _ iv (a .work .now) 0 (a .work .now)) (sym (c .start .ensures .0)) (turned-start _ _ (length (a .work .now) / 16) iv (a .work .now) sized))
 
 loop-again : tie.Need-loop-again Inv-loop μ-loop
 loop-again c =
@@ -45,25 +43,24 @@ loop-again c =
     let made = turn .before .before .before .before in
     let begun = made .before .before .before .before .before .before .before in
     let a = begun .before .args in
-    let key = a .key .now in
-    let m = a .work .now in
-    let bytes : Bytes m = bytes-of m (λ i. omega (arith, begun .slice-known .given i)) in
-    let E = fun-ext (encrypts key (made .before .before .before .before .before .table .ensures) (made .before .before .before .before .table2 .ensures) (made .before .before .before .box-key .ensures) (made .subkeys .ensures)) in (
+    let does = tabled-enc (a .key .now) (made .before .before .before .before .before .table .ensures) (made .before .before .before .before .table2 .ensures) (made .before .before .before .box-key .ensures) (made .subkeys .ensures) in
+    let bytes : Bytes (a .work .now) = bytes-of (a .work .now) (λ i. omega (arith, begun .slice-known .given i)) in (
       refl,
       omega (arith, turn .loop-test .taken),
-      encrypting-next (a .mode) key (length m / 16) (a .iv .now) m E (l .j) (l .work) (l .prev) (l .inv .2) bytes (turn .loop-test .taken)
-          (omega (arith, turn .loop-test .taken)) (u .result) (u .last .1 .1 .1 .1 .1 .1 .0)
-          (record { fa = omega (arith, u .ok); fb = omega (arith, u .ok); fc = omega (arith, u .ok); fd = omega (arith, u .ok) }) (u .ensures .0) (u .ensures .1),
+      encrypt-turn twofishCipher (a .key .now) (a .mode) (length (a .work .now) / 16) (a .iv .now) (a .work .now) bytes does (l .inv .2) (turn .loop-test .taken)
+          (omega (arith, turn .loop-test .taken)) (u .result) (u .last .1 .1 .1 .1 .1 .1 .0) (record { fa = omega (arith, u .ok); fb = omega (arith, u .ok); fc = omega (arith, u .ok); fd = omega (arith, u .ok) }) (u .ensures),
     )
 
 returns-2 : tie.Need-returns-2 Inv-loop μ-loop
 returns-2 c =
     let a = c .before .before .before .before .before .before .before .before .before .before .before .before .args in
     let l = c .before .loop in
-    let e = modeE (a .mode) twofishCipher (a .key .now) in
-    let n = length (a .work .now) / 16 in
-    all-encrypted e n (a .iv .now) (a .work .now) (omega (arith, c .before .before .before .before .before .before .before .before .before .before .if1 .left))
-    (encrypting-end e n (a .iv .now) (a .work .now) (l .inv .2) (omega (arith, c .loop-test .left)))
+    let f = modeE (a .mode) twofishCipher (a .key .now) in
+    let w = a .work .now in
+    let n = length w / 16 in
+    let done = turned-end _ _ n (a .iv .now) w (l .inv .2) (omega (arith, c .loop-test .left)) in
+    all-encrypted f n (a .iv .now) w (omega (arith, c .before .before .before .before .before .before .before .before .before .before .if1 .left))
+    (done ∙ ap (λ (x : List ℕ). x ++ drop (16 * n) w) (through-e f n (a .iv .now) w))
 
 pub encrypt-spec : {M : Type 1} → statement M
 encrypt-spec =

@@ -13,9 +13,9 @@ returns c =
     let tables = c .before .before .before .before .before .before .before in
     let key = c .before .before .before .before .before .before .before .before .before .before .before .before .before .before .args .m .now in
     let x = c .before .before .load in
-    let encrypted = encrypts key (tables .before .before .before .before .before .table .ensures) (tables .before .before .before .before .table2 .ensures) (tables .before .before .before .box-key .ensures) (tables .subkeys .ensures) (x .result) in
+    let same = encrypts key (tables .before .before .before .before .before .table .ensures) (tables .before .before .before .before .table2 .ensures) (tables .before .before .before .box-key .ensures) (tables .subkeys .ensures) in
     c .bytes .ensures
-    ∙ ap blockBytes (c .before .encrypt .ensures ∙ encrypted)
+    ∙ ap blockBytes (c .before .encrypt .ensures ∙ ap (λ (F : Block → Block). F (x .result)) same)
     ∙ ap (λ (z : Block). blockBytes (encryptWords key z)) (x .ensures)
 
 pub encrypt-block-spec : {M : Type 1} → statement M
