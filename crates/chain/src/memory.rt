@@ -42,14 +42,14 @@ pub fn decrypt(mode: Mode, key: &[u8; 32], iv: &[u8; 16], work: &mut [u8], count
     let t1 = q1::table();
     let s = box_key(key);
     let k = subkeys(&t0, &t1, key);
-    let n = work.len() / 16;
+    let blocks = work.len() / 16;
     let mut prev = block::start(iv);
     let mut c = count;
-    let mut j: usize = 0;
-    while j < n {
-        let i = 16 * j;
+    let mut done: usize = 0;
+    while done < blocks {
+        let i = 16 * done;
         let e = i + 16;
-        j += 1;
+        done += 1;
         prev = block::decrypt(mode, &t0, &t1, &s, &k, prev, &mut work[i..e]);
         c = std::num::wrapping_add_u64(c, 1);
     }

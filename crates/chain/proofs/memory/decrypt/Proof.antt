@@ -17,11 +17,11 @@ use Rattle.chain.proofs.memory.decrypt.Statement.{statement}
 use Rattle.chain.proofs.memory.decrypt.Tie as tie
 
 abbrev Inv-loop : tie.InvT-loop
-Inv-loop mode key iv work₀ count t0 t1 s k n prev₀ c₀ j₀ work prev c j =
-    (n ≡ length work₀ / 16) × (j ≤ n) × Turned (modeD mode twofishCipher key) taken n iv work₀ j work prev × (c ≡ (count + j) % 2 ^ 64)
+Inv-loop mode key iv work₀ count t0 t1 s k blocks prev₀ c₀ done₀ work prev c done =
+    (done ≤ blocks) × Turned (modeD mode twofishCipher key) taken blocks iv work₀ done work prev × (c ≡ (count + done) % 2 ^ 64)
 
 abbrev μ-loop : tie.MeasureT-loop
-μ-loop mode key iv work₀ count t0 t1 s k n prev₀ c₀ j₀ work prev c j = n - j
+μ-loop mode key iv work₀ count t0 t1 s k blocks prev₀ c₀ done₀ work prev c done = blocks - done
 
 returns : tie.Need-returns Inv-loop μ-loop
 returns c =
@@ -33,7 +33,7 @@ loop-holds c =
     let a = c .before .before .before .before .before .before .before .before .before .before .args in
     let iv = a .iv .now in
     let sized : Sized 16 iv = record { long = c .before .start-arg .given .0; bytes = c .start .ensures .1 } in
-    (refl, omega arith, subst (Turned _ _ _ iv (a .work .now) 0 (a .work .now)) (sym (c .start .ensures .0)) (turned-start _ _ (length (a .work .now) / 16) iv (a .work .now) sized), omega arith)
+    (omega arith, subst (Turned _ _ _ iv (a .work .now) 0 (a .work .now)) (sym (c .start .ensures .0)) (turned-start _ _ _ iv (a .work .now) sized), omega arith)
 
 loop-again : tie.Need-loop-again Inv-loop μ-loop
 loop-again c =
@@ -45,11 +45,10 @@ loop-again c =
     let a = begun .before .args in
     let does = tabled-dec (a .key .now) (made .before .before .before .before .before .table .ensures) (made .before .before .before .before .table2 .ensures) (made .before .before .before .box-key .ensures) (made .subkeys .ensures) in
     let bytes : Bytes (a .work .now) = bytes-of (a .work .now) (λ i. omega (arith, begun .slice-known .given i)) in (
-      refl,
       omega (arith, turn .loop-test .taken),
-      decrypt-turn twofishCipher (a .key .now) (a .mode) (length (a .work .now) / 16) (a .iv .now) (a .work .now) bytes does (l .inv .2) (turn .loop-test .taken)
+      decrypt-turn twofishCipher (a .key .now) (a .mode) _ (a .iv .now) (a .work .now) bytes does (l .inv .1) (turn .loop-test .taken)
           (omega (arith, turn .loop-test .taken)) (u .result) (u .last .1 .1 .1 .1 .1 .1 .0) (u .ensures),
-      omega (arith, l .inv .3, c .wrapping-add-u64 .ensures),
+      omega (arith, l .inv .2, c .wrapping-add-u64 .ensures),
     )
 
 returns-2 : tie.Need-returns-2 Inv-loop μ-loop
@@ -59,9 +58,9 @@ returns-2 c =
     let f = modeD (a .mode) twofishCipher (a .key .now) in
     let w = a .work .now in
     let n = length w / 16 in
-    let done = turned-end _ _ n (a .iv .now) w (l .inv .2) (omega (arith, c .loop-test .left)) in
+    let done = turned-end _ _ n (a .iv .now) w (l .inv .1) (omega (arith, c .loop-test .left)) in
     all-decrypted f n (a .iv .now) w (a .count) (omega (arith, c .before .before .before .before .before .before .before .before .before .before .if1 .left))
-    (done ∙ ap (λ (x : List ℕ). x ++ drop (16 * n) w) (through-d f n (a .iv .now) w)) (omega (arith, l .inv .3, c .loop-test .left))
+    (done ∙ ap (λ (x : List ℕ). x ++ drop (16 * n) w) (through-d f n (a .iv .now) w)) (omega (arith, l .inv .2, c .loop-test .left))
 
 pub decrypt-spec : {M : Type 1} → statement M
 decrypt-spec =
