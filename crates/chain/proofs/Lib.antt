@@ -1,3 +1,4 @@
+pub mod Through
 pub mod ModeLaws
 pub mod StepLaws
 pub mod MemoryLaws

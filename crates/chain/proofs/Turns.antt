@@ -1,8 +1,8 @@
 -- What a loop over the blocks of a memory holds, in either direction: the definition's text is what the memory has so far, and then what the definition
 -- makes of the rest; a turn of the loop takes one block of the definition.
-use Prim.Native.Nat.{ℕ, zero, suc, _+_, _-_, _*_, _<_, _≤_}
+use Prim.Native.Nat.{ℕ, suc, _+_, _-_, _*_, _<_, _≤_}
 use mathlib.Core.Path.{_≡_, refl, sym, ap, ap₂, _∙_, subst}
-use mathlib.Core.List.{List, [], _++_, append-assoc, append-nil}
+use mathlib.Core.List.{List, _++_, append-assoc, append-nil}
 use native.Mathlib.Omega.{arith}
 use lib.ListN.{length, take, drop, take-append-drop}
 use Rattle.words.specs.Numbers.{Bytes, Sized}
@@ -12,30 +12,11 @@ use Rattle.twofish.specs.declared.Block.{Block}
 use Rattle.twofish.proofs.Rounds.{Words}
 use Rattle.twofish.proofs.Inverse.{block-words, bytes-block, block-bytes-sized}
 use Rattle.chain.specs.Cipher.{Cipher}
-use Rattle.chain.specs.Modes.{encrypted, decrypted}
 use Rattle.chain.specs.Blocks.{wordsD, wordsE, modeE, modeD, EncryptedBlock, DecryptedBlock}
 use Rattle.chain.specs.declared.Mode.{Mode}
+use Rattle.chain.proofs.Through.{through, taken}
 use Rattle.chain.proofs.BlockLaws.{Does, words-e, words-d}
 use Rattle.chain.proofs.InPlace.{blockIn, block-sized, part, around, part-is, around-take, around-drop, around-length, drop-more}
-
--- the first n blocks of l, each made by f from what g hands on and itself
-abbrev pub through : (f g : List ℕ → List ℕ → List ℕ) → ℕ → List ℕ → List ℕ → List ℕ
-through f g zero p l = []
-through f g (suc n) p l = f p (take 16 l) ++ through f g n (g p (take 16 l)) (drop 16 l)
-
--- encryption hands on the block that it makes, decryption the block that it takes
-abbrev pub taken : List ℕ → List ℕ → List ℕ
-taken p b = b
-
-pub through-e : (e : List ℕ → List ℕ → List ℕ) (n : ℕ) (p l : List ℕ) → through e e n p l ≡ encrypted e n p l
-unfolding encrypted
-through-e e zero p l = refl
-through-e e (suc n) p l = ap (λ (z : List ℕ). e p (take 16 l) ++ z) (through-e e n (e p (take 16 l)) (drop 16 l))
-
-pub through-d : (d : List ℕ → List ℕ → List ℕ) (n : ℕ) (p l : List ℕ) → through d taken n p l ≡ decrypted d n p l
-unfolding decrypted
-through-d d zero p l = refl
-through-d d (suc n) p l = ap (λ (z : List ℕ). d p (take 16 l) ++ z) (through-d d n (take 16 l) (drop 16 l))
 
 module _ (f g : List ℕ → List ℕ → List ℕ) (n : ℕ) (iv l : List ℕ) where
   -- memory w, with j blocks done, and the block that the next is chained to

@@ -33,7 +33,8 @@ pub fn encrypt(mode: Mode, key: &[u8; 32], iv: &[u8; 16], work: &mut [u8])
 
 // The count goes on from `count`: one more at each block, and nothing else changes it.
 pub fn decrypt(mode: Mode, key: &[u8; 32], iv: &[u8; 16], work: &mut [u8], count: u64) -> u64
-    ensures { λ r. ⌜ Handed (decryptedInPlace (modeD mode twofishCipher (now (key .entry))) (now (iv .entry)) (now (work .entry)) count) (now (work .exit)) r ⌝ }
+    ensures { λ r. ⌜ Handed (decryptedInPlace (modeD mode twofishCipher (now (key .entry))) (now (iv .entry)) (now (work .entry)) count)
+        (now (work .exit)) r ⌝ }
 {
     if work.len() % 16 != 0 {
         return count;

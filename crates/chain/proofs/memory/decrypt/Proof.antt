@@ -7,11 +7,11 @@ use native.Mathlib.Omega.{arith}
 use lib.ListN.{length, drop}
 use Rattle.words.specs.Numbers.{Bytes, Sized}
 use Rattle.words.proofs.ByteLaws.{bytes-of}
-use Rattle.twofish.specs.declared.Block.{Block}
 use Rattle.chain.specs.Blocks.{modeD}
 use Rattle.chain.specs.Twofish.{twofishCipher}
 use Rattle.chain.proofs.MemoryLaws.{refused-decrypt, all-decrypted}
-use Rattle.chain.proofs.Turns.{taken, through-d, Turned, turned-start, turned-end, decrypt-turn}
+use Rattle.chain.proofs.Through.{taken, through-d}
+use Rattle.chain.proofs.Turns.{Turned, turned-start, turned-end, decrypt-turn}
 use Rattle.chain.proofs.TwofishLaws.{tabled-dec}
 use Rattle.chain.proofs.memory.decrypt.Statement.{statement}
 use Rattle.chain.proofs.memory.decrypt.Tie as tie

@@ -7,11 +7,11 @@ use native.Mathlib.Omega.{arith}
 use lib.ListN.{length, drop}
 use Rattle.words.specs.Numbers.{Bytes, Sized}
 use Rattle.words.proofs.ByteLaws.{bytes-of}
-use Rattle.twofish.specs.declared.Block.{Block}
 use Rattle.chain.specs.Blocks.{modeE}
 use Rattle.chain.specs.Twofish.{twofishCipher}
 use Rattle.chain.proofs.MemoryLaws.{refused-encrypt, all-encrypted}
-use Rattle.chain.proofs.Turns.{through-e, Turned, turned-start, turned-end, encrypt-turn}
+use Rattle.chain.proofs.Through.{through-e}
+use Rattle.chain.proofs.Turns.{Turned, turned-start, turned-end, encrypt-turn}
 use Rattle.chain.proofs.TwofishLaws.{tabled-enc}
 use Rattle.chain.proofs.memory.encrypt.Statement.{statement}
 use Rattle.chain.proofs.memory.encrypt.Tie as tie
