@@ -1,8 +1,8 @@
 -- `chain::memory::encrypt` meets its contract: after j turns the memory has the definition's first j cipher blocks, and then what is left of the text.
 use borrow.Author.Needs.{needs}
-use mathlib.Core.Path.{_≡_, refl, sym, ap, _∙_, subst}
+use mathlib.Core.Path.{sym, ap, _∙_, subst}
 use mathlib.Core.List.{List, _++_}
-use Prim.Native.Nat.{ℕ, _+_, _-_, _*_, _/_, _%_, _^_, _≤_}
+use Prim.Native.Nat.{ℕ, _-_, _*_, _/_, _≤_}
 use native.Mathlib.Omega.{arith}
 use lib.ListN.{length, drop}
 use Rattle.words.specs.Numbers.{Bytes, Sized}
@@ -18,7 +18,7 @@ use Rattle.chain.proofs.memory.encrypt.Tie as tie
 
 abbrev Inv-loop : tie.InvT-loop
 Inv-loop mode key iv work₀ t0 t1 s k n prev₀ j₀ work prev j =
-    (j ≤ n) × Turned (modeE mode twofishCipher key) (modeE mode twofishCipher key) n iv work₀ j work prev
+    Turned (modeE mode twofishCipher key) (modeE mode twofishCipher key) n iv work₀ j work prev × (j ≤ n)
 
 abbrev μ-loop : tie.MeasureT-loop
 μ-loop mode key iv work₀ t0 t1 s k n prev₀ j₀ work prev j = n - j
@@ -33,7 +33,7 @@ loop-holds c =
     let a = c .before .before .before .before .before .before .before .before .before .before .args in
     let iv = a .iv .now in
     let sized : Sized 16 iv = record { long = c .before .start-arg .given .0; bytes = c .start .ensures .1 } in
-    (omega arith, subst (Turned _ _ _ iv (a .work .now) 0 (a .work .now)) (sym (c .start .ensures .0)) (turned-start _ _ _ iv (a .work .now) sized))
+    (subst (Turned _ _ _ iv (a .work .now) 0 (a .work .now)) (sym (c .start .ensures .0)) (turned-start _ _ _ iv (a .work .now) sized), omega arith)
 
 loop-again : tie.Need-loop-again Inv-loop μ-loop
 loop-again c =
@@ -45,9 +45,9 @@ loop-again c =
     let a = begun .before .args in
     let does = tabled-enc (a .key .now) (made .before .before .before .before .before .table .ensures) (made .before .before .before .before .table2 .ensures) (made .before .before .before .box-key .ensures) (made .subkeys .ensures) in
     let bytes : Bytes (a .work .now) = bytes-of (a .work .now) (λ i. omega (arith, begun .slice-known .given i)) in (
-      omega (arith, turn .loop-test .taken),
-      encrypt-turn twofishCipher (a .key .now) (a .mode) _ (a .iv .now) (a .work .now) bytes does (l .inv .1) (turn .loop-test .taken)
+      encrypt-turn twofishCipher (a .key .now) (a .mode) _ (a .iv .now) (a .work .now) bytes does (l .inv .0) (turn .loop-test .taken)
           (omega (arith, turn .loop-test .taken)) (u .result) (u .last .1 .1 .1 .1 .1 .1 .0) (record { fa = omega (arith, u .ok); fb = omega (arith, u .ok); fc = omega (arith, u .ok); fd = omega (arith, u .ok) }) (u .ensures),
+      omega (arith, turn .loop-test .taken),
     )
 
 returns-2 : tie.Need-returns-2 Inv-loop μ-loop
@@ -57,7 +57,7 @@ returns-2 c =
     let f = modeE (a .mode) twofishCipher (a .key .now) in
     let w = a .work .now in
     let n = length w / 16 in
-    let done = turned-end _ _ n (a .iv .now) w (l .inv .1) (omega (arith, c .loop-test .left)) in
+    let done = turned-end _ _ n (a .iv .now) w (l .inv .0) (omega (arith, c .loop-test .left)) in
     all-encrypted f n (a .iv .now) w (omega (arith, c .before .before .before .before .before .before .before .before .before .before .if1 .left))
     (done ∙ ap (λ (x : List ℕ). x ++ drop (16 * n) w) (through-e f n (a .iv .now) w))
 
