@@ -1,28 +1,29 @@
--- A mode on four words is the mode on their 16 bytes: the bytes of an exclusive or are the exclusive ors of the bytes.
+-- A mode on four words is the mode on their 16 bytes, over any cipher that the code's functions on four words are: the bytes of an exclusive or
+-- are the exclusive ors of the bytes.
 use Prim.Native.Nat.{ℕ}
-use mathlib.Core.Path.{_≡_, refl, sym, ap, ap₂, _∙_}
+use mathlib.Core.Path.{_≡_, sym, ap, ap₂, _∙_}
 use mathlib.Core.List.{List, _++_}
 use lib.Bits.{xor-lt}
 use lib.ListN.{length}
 use Rattle.words.specs.Numbers.{bytesLow, Sized}
 use Rattle.words.specs.Xor.{xored}
 use Rattle.words.proofs.NumberLaws.{bytes-sized}
-use Rattle.words.proofs.XorLaws.{xored-append, bytes-xor}
-use Rattle.twofish.specs.Twofish.{blockOf, bytesOf, encryptWords, decryptWords, encryptBlock, decryptBlock}
+use Rattle.words.proofs.XorLaws.{xored-append, bytes-xor, sized-xored}
+use Rattle.twofish.specs.Twofish.{blockOf, blockBytes}
 use Rattle.twofish.specs.declared.Block.{Block}
 use Rattle.twofish.proofs.Rounds.{Words}
-use Rattle.twofish.proofs.Inverse.{block-words, bytes-block, block-bytes}
+use Rattle.twofish.proofs.Inverse.{block-words, bytes-block, block-bytes, block-bytes-sized}
+use Rattle.chain.specs.Cipher.{Cipher}
 use Rattle.chain.specs.Modes.{ecbE, ecbD, cbcE, cbcD}
-use Rattle.chain.specs.Blocks.{xorBlock, sealedBlock, openedBlock, modeE, modeD}
-use Rattle.chain.specs.Twofish.{twofishCipher}
+use Rattle.chain.specs.Blocks.{xorBlock, wordsE, wordsD, modeE, modeD}
 use Rattle.chain.specs.declared.Mode.{Mode}
 use Rattle.chain.specs.declared.Mode.the-variants.{Ecb, Cbc}
 
 word-length : (x y : ℕ) → length (bytesLow 4 x) ≡ length (bytesLow 4 y)
 word-length x y = bytes-sized 4 x .long ∙ sym (bytes-sized 4 y .long)
 
-xor-bytes : (x y : Block) → bytesOf (xorBlock x y) ≡ xored (bytesOf x) (bytesOf y)
-unfolding bytesOf
+xor-bytes : (x y : Block) → blockBytes (xorBlock x y) ≡ xored (blockBytes x) (blockBytes y)
+unfolding blockBytes
 xor-bytes x y =
     ap₂ _++_ (bytes-xor 4 (x .a) (y .a)) (ap₂ _++_ (bytes-xor 4 (x .b) (y .b)) (ap₂ _++_ (bytes-xor 4 (x .c) (y .c)) (bytes-xor 4 (x .d) (y .d))))
     ∙ sym
@@ -42,20 +43,27 @@ xor-words x y v w =
     }
 
 -- the words of 16 bytes with a block
-block-xor : (b : List ℕ) (p : Block) → Sized 16 b → Words p → blockOf (xored b (bytesOf p)) ≡ xorBlock (blockOf b) p
+block-xor : (b : List ℕ) (p : Block) → Sized 16 b → Words p → blockOf (xored b (blockBytes p)) ≡ xorBlock (blockOf b) p
 block-xor b p hb hp =
-    ap (λ (l : List ℕ). blockOf (xored l (bytesOf p))) (sym (bytes-block b hb))
+    ap (λ (l : List ℕ). blockOf (xored l (blockBytes p))) (sym (bytes-block b hb))
     ∙ ap blockOf (sym (xor-bytes (blockOf b) p))
     ∙ block-bytes (xorBlock (blockOf b) p) (xor-words (blockOf b) p (block-words b (hb .bytes)) hp)
 
-pub sealed-bytes : (mode : Mode) (k b : List ℕ) (p : Block) → Sized 16 b → Words p
-    → bytesOf (sealedBlock mode (encryptWords k) p (blockOf b)) ≡ modeE mode twofishCipher k (bytesOf p) b
-unfolding sealedBlock modeE ecbE cbcE encryptBlock
-sealed-bytes Ecb k b p hb hp = refl
-sealed-bytes Cbc k b p hb hp = sym (ap (λ (x : Block). bytesOf (encryptWords k x)) (block-xor b p hb hp))
+-- F does on four words what f does on their 16 bytes
+abbrev pub Does : (Block → Block) → (List ℕ → List ℕ) → Type 0
+Does F f = (b : List ℕ) → Sized 16 b → blockBytes (F (blockOf b)) ≡ f b
 
-pub opened-bytes : (mode : Mode) (k b : List ℕ) (p : Block)
-    → bytesOf (openedBlock mode (decryptWords k) p (blockOf b)) ≡ modeD mode twofishCipher k (bytesOf p) b
-unfolding openedBlock modeD ecbD cbcD decryptBlock
-opened-bytes Ecb k b p = refl
-opened-bytes Cbc k b p = xor-bytes (decryptWords k (blockOf b)) p
+module _ (C : Cipher) (key : List ℕ) (F : Block → Block) where
+  pub words-e : Does F (C .enc key) → (mode : Mode) (b : List ℕ) (p : Block) → Sized 16 b → Words p
+      → blockBytes (wordsE mode F p (blockOf b)) ≡ modeE mode C key (blockBytes p) b
+  unfolding wordsE modeE ecbE cbcE
+  words-e does Ecb b p hb hp = does b hb
+  words-e does Cbc b p hb hp =
+      ap (λ (x : Block). blockBytes (F x)) (sym (block-xor b p hb hp))
+      ∙ does (xored b (blockBytes p)) (sized-xored 16 b (blockBytes p) hb (block-bytes-sized p))
+
+  pub words-d : Does F (C .dec key) → (mode : Mode) (b : List ℕ) (p : Block) → Sized 16 b
+      → blockBytes (wordsD mode F p (blockOf b)) ≡ modeD mode C key (blockBytes p) b
+  unfolding wordsD modeD ecbD cbcD
+  words-d does Ecb b p hb = does b hb
+  words-d does Cbc b p hb = xor-bytes (F (blockOf b)) p ∙ ap (λ (x : List ℕ). xored x (blockBytes p)) (does b hb)

@@ -1,8 +1,8 @@
+pub mod Through
 pub mod ModeLaws
 pub mod StepLaws
 pub mod MemoryLaws
-pub mod TwofishLaws
 pub mod BlockLaws
 pub mod InPlace
-pub mod OpenLoop
-pub mod SealLoop
+pub mod Turns
+pub mod TwofishLaws

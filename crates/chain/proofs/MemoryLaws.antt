@@ -1,5 +1,5 @@
--- What the calls leave in a memory of n whole blocks: the n blocks enciphered or deciphered, and the count n past that of the earlier stage.
-use Prim.Native.Nat.{ℕ, _*_, _/_, _%_, _^_, _<_, _≤_}
+-- What the calls leave in a memory of n whole blocks: the n blocks encrypted or decrypted, and the count n past that of the earlier stage.
+use Prim.Native.Nat.{ℕ, _+_, _*_, _/_, _%_, _^_, _<_, _≤_}
 use mathlib.Core.Path.{_≡_, refl, sym, ap, ap₂, _∙_}
 use mathlib.Core.Bool.{Bool, true, false, cond}
 use mathlib.Core.List.{List, [], _++_, append-nil}
@@ -9,19 +9,20 @@ use borrow.Author.Tests.{eq-eqb, ne-eqb, le-leb, lt-leb}
 use lib.ListN.{length, take, drop, drop-of-length-le}
 use lib.Seq.{take-all, take-at, drop-at}
 use Rattle.words.specs.Slices.{copied}
-use Rattle.chain.specs.Modes.{encipher}
-use Rattle.chain.specs.Opening.{opening, step, run}
-use Rattle.chain.specs.Memory.{blocksIn, sealed, sealedInto, opened, Handed}
+use Rattle.chain.specs.Modes.{encrypted, decrypted}
+use Rattle.chain.specs.Decryption.{decryption, run}
+use Rattle.chain.specs.Memory.{wholeBlocks, encryptedInPlace, encryptedInto, decryptedInPlace, Handed}
+use Rattle.chain.proofs.StepLaws.{decryption-done, decryption-count, decryption-rest}
 
-pub whole : (n : ℕ) (l : List ℕ) → length l ≡ 16 * n → blocksIn l ≡ n
-unfolding blocksIn
+pub whole : (n : ℕ) (l : List ℕ) → length l ≡ 16 * n → wholeBlocks l ≡ n
+unfolding wholeBlocks
 whole n l h =
     let p : length l % 16 ≡ 0 = omega arith in
     let q : length l / 16 ≡ n = omega arith in
     rw (eq-eqb (length l % 16) 0 p) q
 
-pub blocks-none : (l : List ℕ) → (length l % 16 ≡ 0 → ⊥) → blocksIn l ≡ 0
-unfolding blocksIn
+pub blocks-none : (l : List ℕ) → (length l % 16 ≡ 0 → ⊥) → wholeBlocks l ≡ 0
+unfolding wholeBlocks
 blocks-none l h = rw (ne-eqb (length l % 16) 0 h) refl
 
 over : (n : ℕ) (l : List ℕ) → length l ≡ 16 * n → drop (16 * n) l ≡ []
@@ -39,50 +40,55 @@ module _ (l to : List ℕ) {t : List ℕ} (h : length l ≤ length to) (q : t �
   copy-back = ap (drop (length l)) joined ∙ drop-at l (drop (length l) to) (length l) refl
 
 module _ (e : List ℕ → List ℕ → List ℕ) where
-  pub sealed-whole : (n : ℕ) (p l : List ℕ) → length l ≡ 16 * n → sealed e p l ≡ encipher e n p l
-  unfolding sealed
-  sealed-whole n p l h = rw (whole n l h, over n l h) (append-nil (encipher e n p l))
+  pub encrypted-whole : (n : ℕ) (p l : List ℕ) → length l ≡ 16 * n → encryptedInPlace e p l ≡ encrypted e n p l
+  unfolding encryptedInPlace
+  encrypted-whole n p l h = rw (whole n l h, over n l h) (append-nil (encrypted e n p l))
 
-  pub sealed-into : (n : ℕ) (p l to : List ℕ) → length l ≡ 16 * n → length l ≤ length to → sealedInto e p l to ≡ encipher e n p l ++ drop (16 * n) to
-  unfolding sealedInto
-  sealed-into n p l to h k = rw (le-leb (length l) (length to) k, whole n l h) refl
+  pub encrypted-into : (n : ℕ) (p l to : List ℕ) → length l ≡ 16 * n → length l ≤ length to → encryptedInto e p l to ≡ encrypted e n p l ++ drop (16 * n) to
+  unfolding encryptedInto
+  encrypted-into n p l to h k = rw (le-leb (length l) (length to) k, whole n l h) refl
 
   -- as the code goes: refused, or all blocks done
-  pub refused-seal : (p l : List ℕ) → (length l % 16 ≡ 0 → ⊥) → l ≡ sealed e p l
-  unfolding sealed encipher
-  refused-seal p l h = rw (blocks-none l h) refl
+  pub refused-encrypt : (p l : List ℕ) → (length l % 16 ≡ 0 → ⊥) → l ≡ encryptedInPlace e p l
+  unfolding encryptedInPlace encrypted
+  refused-encrypt p l h = rw (blocks-none l h) refl
 
-  pub all-sealed : (n : ℕ) (p l : List ℕ) {w : List ℕ} → length l ≡ 16 * n → w ≡ encipher e n p l ++ drop (16 * n) l → w ≡ sealed e p l
-  unfolding sealed
-  all-sealed n p l h g = rw (whole n l h) g
+  pub all-encrypted : (n : ℕ) (p l : List ℕ) {w : List ℕ} → length l ≡ 16 * n → w ≡ encrypted e n p l ++ drop (16 * n) l → w ≡ encryptedInPlace e p l
+  unfolding encryptedInPlace
+  all-encrypted n p l h g = rw (whole n l h) g
 
-  pub refused-into : (p l to : List ℕ) → (length l % 16 ≡ 0 → ⊥) → to ≡ sealedInto e p l to
-  unfolding sealedInto encipher
+  pub refused-into : (p l to : List ℕ) → (length l % 16 ≡ 0 → ⊥) → to ≡ encryptedInto e p l to
+  unfolding encryptedInto encrypted
   refused-into p l to h = rw (blocks-none l h) (either (leb (length l) (length to)))
     where
       either : (b : Bool) → to ≡ cond b to to
       either true = refl
       either false = refl
 
-  pub too-short : (p l to : List ℕ) → length to < length l → to ≡ sealedInto e p l to
-  unfolding sealedInto
+  pub too-short : (p l to : List ℕ) → length to < length l → to ≡ encryptedInto e p l to
+  unfolding encryptedInto
   too-short p l to h = rw (lt-leb (length l) (length to) h) refl
 
   pub all-into : (p l to : List ℕ) {t v : List ℕ} → length l % 16 ≡ 0 → length l ≤ length to → t ≡ copied to l
-      → v ≡ sealed e p (take (length l) t) → v ++ drop (length l) t ≡ sealedInto e p l to
+      → v ≡ encryptedInPlace e p (take (length l) t) → v ++ drop (length l) t ≡ encryptedInto e p l to
   all-into p l to m h q g =
       let n = length l / 16 in
       let k : length l ≡ 16 * n = omega arith in
-      ap₂ _++_ (g ∙ ap (sealed e p) (copy-front l to h q) ∙ sealed-whole n p l k) (copy-back l to h q ∙ ap (λ (i : ℕ). drop i to) k)
-      ∙ sym (sealed-into n p l to k h)
+      ap₂ _++_ (g ∙ ap (encryptedInPlace e p) (copy-front l to h q) ∙ encrypted-whole n p l k) (copy-back l to h q ∙ ap (λ (i : ℕ). drop i to) k)
+      ∙ sym (encrypted-into n p l to k h)
 
 module _ (d : List ℕ → List ℕ → List ℕ) where
   -- as the code goes: refused, or all blocks done
-  pub refused-open : (p l : List ℕ) (c : ℕ) → (length l % 16 ≡ 0 → ⊥) → c < 2 ^ 64 → Handed (opened d p l c) l c
-  unfolding opened run opening
-  refused-open p l c h k = rw (blocks-none l h) (record { text = refl; blocks = omega arith })
+  pub refused-decrypt : (p l : List ℕ) (c : ℕ) → (length l % 16 ≡ 0 → ⊥) → c < 2 ^ 64 → Handed (decryptedInPlace d p l c) l c
+  unfolding decryptedInPlace run decryption
+  refused-decrypt p l c h k = rw (blocks-none l h) (record { text = refl; blocks = omega arith })
 
-  pub all-open : (n : ℕ) (p l : List ℕ) (c : ℕ) {w : List ℕ} {r : ℕ} → length l ≡ 16 * n
-      → Handed (run (step d) n (opening p l c)) w r → Handed (opened d p l c) w r
-  unfolding opened
-  all-open n p l c h g = rw (whole n l h) g
+  pub all-decrypted : (n : ℕ) (p l : List ℕ) (c : ℕ) {w : List ℕ} {r : ℕ} → length l ≡ 16 * n
+      → w ≡ decrypted d n p l ++ drop (16 * n) l → r ≡ (c + n) % 2 ^ 64 → Handed (decryptedInPlace d p l c) w r
+  unfolding decryptedInPlace
+  all-decrypted n p l c h g k =
+      rw (whole n l h)
+      (record {
+        text = g ∙ sym (ap₂ _++_ (decryption-done d n p l c) (decryption-rest d n p l c));
+        blocks = k ∙ sym (ap (λ (m : ℕ). m % 2 ^ 64) (decryption-count d n p l c));
+      })

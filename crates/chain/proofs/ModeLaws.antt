@@ -1,22 +1,19 @@
--- What a mode enciphers it deciphers again, and the other way round, over any block cipher with its laws: block by block, and then by recursion
--- on the number of blocks.
-use Prim.Native.Nat.{ℕ, zero, suc, _*_}
-use mathlib.Core.Path.{_≡_, refl, ap, _∙_}
-use mathlib.Core.List.{List, [], _∷_}
+-- What a mode encrypts it decrypts again, and the other way round, over any block cipher with its laws: block by block, and so through all blocks.
+use Prim.Native.Nat.{ℕ, _*_}
+use mathlib.Core.Path.{_≡_, refl, sym, ap, _∙_, subst}
+use mathlib.Core.List.{List}
 use native.Mathlib.Omega.{arith}
-use lib.ListN.{length, take, drop, take-append-drop}
-use lib.Seq.{take-at, drop-at}
-use Rattle.words.specs.Numbers.{none, Sized}
+use Rattle.words.specs.Numbers.{Sized}
 use Rattle.words.specs.Xor.{xored}
-use Rattle.words.proofs.ByteLaws.{sized-append, sized-take, sized-drop, resized}
 use Rattle.words.proofs.XorLaws.{xored-undo, sized-xored}
 use Rattle.chain.specs.Cipher.{Cipher, CipherLaws}
-use Rattle.chain.specs.Modes.{ecbE, ecbD, cbcE, cbcD, encipher, decipher}
+use Rattle.chain.specs.Modes.{ecbE, ecbD, cbcE, cbcD, encrypted, decrypted}
+use Rattle.chain.proofs.Through.{through, taken, through-e, through-d, Makes, through-sized, through-back}
 
 -- a mode whose two directions undo each other on a block
 pub record ModeLaws (e d : List ℕ → List ℕ → List ℕ) : Type 0 where
-  pub e-sized : (p b : List ℕ) → Sized 16 p → Sized 16 b → Sized 16 (e p b)
-  pub d-sized : (p b : List ℕ) → Sized 16 p → Sized 16 b → Sized 16 (d p b)
+  pub e-sized : Makes e
+  pub d-sized : Makes d
   pub d-e : (p b : List ℕ) → Sized 16 p → Sized 16 b → d p (e p b) ≡ b
   pub e-d : (p b : List ℕ) → Sized 16 p → Sized 16 b → e p (d p b) ≡ b
 
@@ -46,55 +43,21 @@ module _ (C : Cipher) (X : CipherLaws C) (k : List ℕ) (hk : Sized 32 k) where
         e-d = λ p b hp hb. ap (C .enc k) (xor-back (C .dec k b) p (X .dec-sized k b hk hb) hp) ∙ X .enc-dec k b hk hb;
       }
 
-empty : (l : List ℕ) → length l ≡ 16 * 0 → [] ≡ l
-empty [] h = refl
-empty (a ∷ l) h = absurd (omega arith)
+module _ (e d : List ℕ → List ℕ → List ℕ) (m : ModeLaws e d) (n : ℕ) (p l : List ℕ) (hp : Sized 16 p) (h : Sized (16 * n) l) where
+  pub encrypted-sized : Sized (16 * n) (encrypted e n p l)
+  encrypted-sized = subst (Sized (16 * n)) (through-e e n p l) (through-sized e e (m .e-sized) (m .e-sized) n p l hp h)
 
-module _ (e d : List ℕ → List ℕ → List ℕ) (m : ModeLaws e d) where
-  pub encipher-sized : (n : ℕ) (p l : List ℕ) → Sized 16 p → Sized (16 * n) l → Sized (16 * n) (encipher e n p l)
-  unfolding encipher
-  encipher-sized zero p l hp h = record { long = refl; bytes = none }
-  encipher-sized (suc n) p l hp h =
-      let c = m .e-sized p (take 16 l) hp (sized-take 16 (16 * suc n) l (omega arith) h) in
-      resized (omega arith)
-      (sized-append 16 (16 * n) (e p (take 16 l)) (encipher e n (e p (take 16 l)) (drop 16 l)) c
-      (encipher-sized n (e p (take 16 l)) (drop 16 l) c (sized-drop 16 (16 * suc n) (16 * n) l (omega arith) h)))
+  pub decrypted-sized : Sized (16 * n) (decrypted d n p l)
+  decrypted-sized = subst (Sized (16 * n)) (through-d d n p l) (through-sized d taken (m .d-sized) (λ p b hp hb. hb) n p l hp h)
 
-  pub decipher-sized : (n : ℕ) (p l : List ℕ) → Sized 16 p → Sized (16 * n) l → Sized (16 * n) (decipher d n p l)
-  unfolding decipher
-  decipher-sized zero p l hp h = record { long = refl; bytes = none }
-  decipher-sized (suc n) p l hp h =
-      let b = sized-take 16 (16 * suc n) l (omega arith) h in
-      resized (omega arith)
-      (sized-append 16 (16 * n) (d p (take 16 l)) (decipher d n (take 16 l) (drop 16 l)) (m .d-sized p (take 16 l) hp b)
-      (decipher-sized n (take 16 l) (drop 16 l) b (sized-drop 16 (16 * suc n) (16 * n) l (omega arith) h)))
+  pub decrypted-encrypted : decrypted d n p (encrypted e n p l) ≡ l
+  decrypted-encrypted =
+      sym (through-d d n p (encrypted e n p l))
+      ∙ ap (through d taken n p) (sym (through-e e n p l))
+      ∙ through-back e e (m .e-sized) (m .e-sized) d taken (m .d-e) (λ p b hp hb. refl) n p l hp h
 
-  pub decipher-encipher : (n : ℕ) (p l : List ℕ) → Sized 16 p → Sized (16 * n) l → decipher d n p (encipher e n p l) ≡ l
-  unfolding encipher decipher
-  decipher-encipher zero p l hp h = empty l (h .long)
-  decipher-encipher (suc n) p l hp h =
-      let b = sized-take 16 (16 * suc n) l (omega arith) h in
-      let c = m .e-sized p (take 16 l) hp b in
-      let R = encipher e n (e p (take 16 l)) (drop 16 l) in
-      rw (
-        take-at (e p (take 16 l)) R 16 (c .long),
-        drop-at (e p (take 16 l)) R 16 (c .long),
-        m .d-e p (take 16 l) hp b,
-        decipher-encipher n (e p (take 16 l)) (drop 16 l) c (sized-drop 16 (16 * suc n) (16 * n) l (omega arith) h),
-      )
-      (take-append-drop 16 l)
-
-  pub encipher-decipher : (n : ℕ) (p l : List ℕ) → Sized 16 p → Sized (16 * n) l → encipher e n p (decipher d n p l) ≡ l
-  unfolding encipher decipher
-  encipher-decipher zero p l hp h = empty l (h .long)
-  encipher-decipher (suc n) p l hp h =
-      let b = sized-take 16 (16 * suc n) l (omega arith) h in
-      let c = m .d-sized p (take 16 l) hp b in
-      let R = decipher d n (take 16 l) (drop 16 l) in
-      rw (
-        take-at (d p (take 16 l)) R 16 (c .long),
-        drop-at (d p (take 16 l)) R 16 (c .long),
-        m .e-d p (take 16 l) hp b,
-        encipher-decipher n (take 16 l) (drop 16 l) b (sized-drop 16 (16 * suc n) (16 * n) l (omega arith) h),
-      )
-      (take-append-drop 16 l)
+  pub encrypted-decrypted : encrypted e n p (decrypted d n p l) ≡ l
+  encrypted-decrypted =
+      sym (through-e e n p (decrypted d n p l))
+      ∙ ap (through e e n p) (sym (through-d d n p l))
+      ∙ through-back d taken (m .d-sized) (λ p b hp hb. hb) e e (m .e-d) (m .e-d) n p l hp h

@@ -1,6 +1,6 @@
 pub mod Cipher
 pub mod Modes
-pub mod Opening
+pub mod Decryption
 pub mod Memory
 pub mod Twofish
 pub mod Blocks

@@ -21,11 +21,11 @@ module _ (C : Cipher) (k : List ℕ) where
   cbcD prev c = xored (C .dec k c) prev
 
 -- the cipher text of the first n blocks of l, in a mode
-unfoldable pub encipher : (List ℕ → List ℕ → List ℕ) → ℕ → List ℕ → List ℕ → List ℕ
-encipher e zero prev l = []
-encipher e (suc n) prev l = e prev (take 16 l) ++ encipher e n (e prev (take 16 l)) (drop 16 l)
+unfoldable pub encrypted : (List ℕ → List ℕ → List ℕ) → ℕ → List ℕ → List ℕ → List ℕ
+encrypted e zero prev l = []
+encrypted e (suc n) prev l = e prev (take 16 l) ++ encrypted e n (e prev (take 16 l)) (drop 16 l)
 
 -- the text of the first n blocks of a cipher text l
-unfoldable pub decipher : (List ℕ → List ℕ → List ℕ) → ℕ → List ℕ → List ℕ → List ℕ
-decipher d zero prev l = []
-decipher d (suc n) prev l = d prev (take 16 l) ++ decipher d n (take 16 l) (drop 16 l)
+unfoldable pub decrypted : (List ℕ → List ℕ → List ℕ) → ℕ → List ℕ → List ℕ → List ℕ
+decrypted d zero prev l = []
+decrypted d (suc n) prev l = d prev (take 16 l) ++ decrypted d n (take 16 l) (drop 16 l)

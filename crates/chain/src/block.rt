@@ -3,21 +3,17 @@ use super::Mode;
 use twofish::Block;
 use twofish::blocks::bytes;
 use twofish::blocks::load;
-use twofish::cipher::decrypt;
-use twofish::cipher::encrypt;
+use twofish::cipher;
 use words::slices::copy;
 ghost use mathlib.Core.Path.{_≡_};
-ghost use lib.ListN.{length};
-ghost use Rattle.words.specs.Slices.{copied};
-ghost use Rattle.twofish.specs.Table.{at};
-ghost use Rattle.twofish.specs.Key.{h};
-ghost use Rattle.twofish.specs.Cipher.{encrypt as encryptOf, decrypt as decryptOf};
-ghost use Rattle.twofish.specs.Twofish.{blockOf, bytesOf};
-ghost use Rattle.chain.specs.Blocks.{xorBlock, sealedBlock, openedBlock};
+ghost use Rattle.words.specs.Numbers.{Bytes};
+ghost use Rattle.twofish.specs.Twofish.{blockOf};
+ghost use Rattle.twofish.specs.Tabled.{tabledEncrypt, tabledDecrypt};
+ghost use Rattle.chain.specs.Blocks.{xorBlock, wordsE, wordsD, EncryptedBlock, DecryptedBlock};
 
-// The block of 16 bytes.
+// The block that the first one is chained to. That an array holds bytes is known where it is lent as a slice: so it is said here.
 pub fn start(iv: &[u8]) -> Block
-    ensures { λ r. ⌜ (length (now (iv .entry)) ≡ 16 → bytesOf r ≡ now (iv .entry)) ⌝ }
+    ensures { λ r. ⌜ (r ≡ blockOf (now (iv .entry))) × Bytes (now (iv .entry)) ⌝ }
 {
     load(iv)
 }
@@ -33,7 +29,7 @@ fn xor(x: Block, y: Block) -> Block
     }
 }
 
-fn sealed(
+fn encrypt_words(
     mode: Mode,
     t0: &[u8; 256],
     t1: &[u8; 256],
@@ -42,15 +38,15 @@ fn sealed(
     prev: Block,
     x: Block,
 ) -> Block
-    ensures { λ r. ⌜ r ≡ sealedBlock mode (encryptOf (h (at (now (t0 .entry))) (at (now (t1 .entry))) (now (s .entry))) (at (now (k .entry)))) prev x ⌝ }
+    ensures { λ r. ⌜ r ≡ wordsE mode (tabledEncrypt (now (t0 .entry)) (now (t1 .entry)) (now (s .entry)) (now (k .entry))) prev x ⌝ }
 {
     match mode {
-        Mode::Ecb => encrypt(t0, t1, s, k, x),
-        Mode::Cbc => encrypt(t0, t1, s, k, xor(x, prev)),
+        Mode::Ecb => cipher::encrypt(t0, t1, s, k, x),
+        Mode::Cbc => cipher::encrypt(t0, t1, s, k, xor(x, prev)),
     }
 }
 
-fn opened(
+fn decrypt_words(
     mode: Mode,
     t0: &[u8; 256],
     t1: &[u8; 256],
@@ -59,16 +55,16 @@ fn opened(
     prev: Block,
     x: Block,
 ) -> Block
-    ensures { λ r. ⌜ r ≡ openedBlock mode (decryptOf (h (at (now (t0 .entry))) (at (now (t1 .entry))) (now (s .entry))) (at (now (k .entry)))) prev x ⌝ }
+    ensures { λ r. ⌜ r ≡ wordsD mode (tabledDecrypt (now (t0 .entry)) (now (t1 .entry)) (now (s .entry)) (now (k .entry))) prev x ⌝ }
 {
     match mode {
-        Mode::Ecb => decrypt(t0, t1, s, k, x),
-        Mode::Cbc => xor(decrypt(t0, t1, s, k, x), prev),
+        Mode::Ecb => cipher::decrypt(t0, t1, s, k, x),
+        Mode::Cbc => xor(cipher::decrypt(t0, t1, s, k, x), prev),
     }
 }
 
 // Both hand on the cipher block, which the next block is chained to.
-pub fn seal(
+pub fn encrypt(
     mode: Mode,
     t0: &[u8; 256],
     t1: &[u8; 256],
@@ -77,15 +73,16 @@ pub fn seal(
     prev: Block,
     b: &mut [u8],
 ) -> Block
-    ensures { λ r. ⌜ (r ≡ sealedBlock mode (encryptOf (h (at (now (t0 .entry))) (at (now (t1 .entry))) (now (s .entry))) (at (now (k .entry)))) prev (blockOf (now (b .entry)))) × (now (b .exit) ≡ copied (now (b .entry)) (bytesOf r)) ⌝ }
+    ensures { λ r. ⌜ EncryptedBlock mode (tabledEncrypt (now (t0 .entry)) (now (t1 .entry)) (now (s .entry)) (now (k .entry)))
+        prev (now (b .entry)) (now (b .exit)) r ⌝ }
 {
-    let x = sealed(mode, t0, t1, s, k, prev, load(b));
+    let x = encrypt_words(mode, t0, t1, s, k, prev, load(b));
     let t = bytes(x);
     copy(b, &t);
     x
 }
 
-pub fn unseal(
+pub fn decrypt(
     mode: Mode,
     t0: &[u8; 256],
     t1: &[u8; 256],
@@ -94,10 +91,11 @@ pub fn unseal(
     prev: Block,
     b: &mut [u8],
 ) -> Block
-    ensures { λ r. ⌜ (r ≡ blockOf (now (b .entry))) × (now (b .exit) ≡ copied (now (b .entry)) (bytesOf (openedBlock mode (decryptOf (h (at (now (t0 .entry))) (at (now (t1 .entry))) (now (s .entry))) (at (now (k .entry)))) prev r))) ⌝ }
+    ensures { λ r. ⌜ DecryptedBlock mode (tabledDecrypt (now (t0 .entry)) (now (t1 .entry)) (now (s .entry)) (now (k .entry)))
+        prev (now (b .entry)) (now (b .exit)) r ⌝ }
 {
     let x = load(b);
-    let y = opened(mode, t0, t1, s, k, prev, x);
+    let y = decrypt_words(mode, t0, t1, s, k, prev, x);
     let t = bytes(y);
     copy(b, &t);
     x

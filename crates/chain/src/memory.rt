@@ -1,19 +1,17 @@
 // A memory of whole blocks in place, in either mode.
 use super::Mode;
-use super::block::seal;
-use super::block::start;
-use super::block::unseal;
+use super::block;
 use twofish::key::box_key;
 use twofish::key::subkeys;
 use twofish::q0;
 use twofish::q1;
 ghost use mathlib.Core.Path.{_≡_};
-ghost use Rattle.chain.specs.Memory.{sealed, opened, Handed};
+ghost use Rattle.chain.specs.Memory.{encryptedInPlace, decryptedInPlace, Handed};
 ghost use Rattle.chain.specs.Blocks.{modeE, modeD};
 ghost use Rattle.chain.specs.Twofish.{twofishCipher};
 
-pub fn encipher(mode: Mode, key: &[u8; 32], iv: &[u8; 16], work: &mut [u8])
-    ensures { λ _. ⌜ now (work .exit) ≡ sealed (modeE mode twofishCipher (now (key .entry))) (now (iv .entry)) (now (work .entry)) ⌝ }
+pub fn encrypt(mode: Mode, key: &[u8; 32], iv: &[u8; 16], work: &mut [u8])
+    ensures { λ _. ⌜ now (work .exit) ≡ encryptedInPlace (modeE mode twofishCipher (now (key .entry))) (now (iv .entry)) (now (work .entry)) ⌝ }
 {
     if work.len() % 16 != 0 {
         return;
@@ -23,19 +21,20 @@ pub fn encipher(mode: Mode, key: &[u8; 32], iv: &[u8; 16], work: &mut [u8])
     let s = box_key(key);
     let k = subkeys(&t0, &t1, key);
     let n = work.len() / 16;
-    let mut prev = start(iv);
+    let mut prev = block::start(iv);
     let mut j: usize = 0;
     while j < n {
         let i = 16 * j;
         let e = i + 16;
         j += 1;
-        prev = seal(mode, &t0, &t1, &s, &k, prev, &mut work[i..e]);
+        prev = block::encrypt(mode, &t0, &t1, &s, &k, prev, &mut work[i..e]);
     }
 }
 
 // The count goes on from `count`: one more at each block, and nothing else changes it.
-pub fn decipher(mode: Mode, key: &[u8; 32], iv: &[u8; 16], work: &mut [u8], count: u64) -> u64
-    ensures { λ r. ⌜ Handed (opened (modeD mode twofishCipher (now (key .entry))) (now (iv .entry)) (now (work .entry)) count) (now (work .exit)) r ⌝ }
+pub fn decrypt(mode: Mode, key: &[u8; 32], iv: &[u8; 16], work: &mut [u8], count: u64) -> u64
+    ensures { λ r. ⌜ Handed (decryptedInPlace (modeD mode twofishCipher (now (key .entry))) (now (iv .entry)) (now (work .entry)) count)
+        (now (work .exit)) r ⌝ }
 {
     if work.len() % 16 != 0 {
         return count;
@@ -44,15 +43,15 @@ pub fn decipher(mode: Mode, key: &[u8; 32], iv: &[u8; 16], work: &mut [u8], coun
     let t1 = q1::table();
     let s = box_key(key);
     let k = subkeys(&t0, &t1, key);
-    let n = work.len() / 16;
-    let mut prev = start(iv);
+    let blocks = work.len() / 16;
+    let mut prev = block::start(iv);
     let mut c = count;
-    let mut j: usize = 0;
-    while j < n {
-        let i = 16 * j;
+    let mut done: usize = 0;
+    while done < blocks {
+        let i = 16 * done;
         let e = i + 16;
-        j += 1;
-        prev = unseal(mode, &t0, &t1, &s, &k, prev, &mut work[i..e]);
+        done += 1;
+        prev = block::decrypt(mode, &t0, &t1, &s, &k, prev, &mut work[i..e]);
         c = std::num::wrapping_add_u64(c, 1);
     }
     c

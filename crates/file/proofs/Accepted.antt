@@ -14,13 +14,13 @@ use Rattle.words.specs.Numbers.{Bytes, Sized, numberLow, bytesLow}
 use Rattle.words.specs.Slices.{zeros}
 use Rattle.words.proofs.ByteLaws.{sized-take, sized-drop, sized-append, sized-zeros}
 use Rattle.words.proofs.NumberLaws.{bytes-sized}
-use Rattle.chain.specs.Modes.{ecbE, ecbD, cbcE, cbcD, encipher, decipher}
-use Rattle.chain.proofs.ModeLaws.{ecb-laws, cbc-laws, encipher-sized, decipher-sized, decipher-encipher, encipher-decipher}
-use Rattle.chain.proofs.StepLaws.{opened-done}
+use Rattle.chain.specs.Modes.{ecbE, ecbD, cbcE, cbcD, encrypted, decrypted}
+use Rattle.chain.proofs.ModeLaws.{ecb-laws, cbc-laws, encrypted-sized, decrypted-sized, decrypted-encrypted, encrypted-decrypted}
+use Rattle.chain.proofs.StepLaws.{decryption-done}
 use Rattle.file.specs.Layout.{Parts, split, join, listed, tag, marker, firstMarker}
 use Rattle.file.specs.Edition.{Edition, Stretched, Laws}
 use Rattle.file.specs.Description.{IsSafe, wrapped, cbc, partsOf, fileOf}
-use Rattle.file.specs.Reading.{Answers, Report, accepted, badLength, keysOpened, bodyOpened, keyK, keyL, bodyOf, checked, readingOf}
+use Rattle.file.specs.Reading.{Answers, Report, accepted, badLength, keysDecrypted, bodyDecrypted, keyK, keyL, bodyOf, checked, readingOf}
 use Rattle.file.proofs.Glue.{same-of, same-is}
 use Rattle.file.proofs.PartLaws.{sizes, join-split, split-sizes, split-join, join-length, Lengths, lengths, all-lengths, tail-split, bytes-split, iter-back, iter-again, iter-small}
 use Rattle.file.proofs.Markers.{marker-found, marker-sized, marker-first, clear-each, each-clear}
@@ -42,16 +42,16 @@ unfolding badLength
 is-length n a b c = rw (le-ltb n 232 a, le-ltb 4194304 n b, eq-eqb ((n - 200) % 16) 0 c)
 
 module _ (E : Edition) (X : Laws E) where
-  -- what was deciphered
-  pub keys-done : (k c : List ℕ) → keysOpened (E .format) k c .done ≡ decipher (ecbD (E .format .cipher) k) 4 (zeros 16) c
-  unfolding keysOpened
-  keys-done k c = opened-done (ecbD (E .format .cipher) k) 4 (zeros 16) c 0
+  -- what was decrypted
+  pub keys-done : (k c : List ℕ) → keysDecrypted (E .format) k c .done ≡ decrypted (ecbD (E .format .cipher) k) 4 (zeros 16) c
+  unfolding keysDecrypted
+  keys-done k c = decryption-done (ecbD (E .format .cipher) k) 4 (zeros 16) c 0
 
-  pub body-done : (k iv : List ℕ) (n : ℕ) (c : List ℕ) (m : ℕ) → bodyOpened (E .format) k iv n c m .done ≡ decipher (cbcD (E .format .cipher) k) n iv c
-  unfolding bodyOpened
-  body-done k iv n c m = opened-done (cbcD (E .format .cipher) k) n iv c m
+  pub body-done : (k iv : List ℕ) (n : ℕ) (c : List ℕ) (m : ℕ) → bodyDecrypted (E .format) k iv n c m .done ≡ decrypted (cbcD (E .format .cipher) k) n iv c
+  unfolding bodyDecrypted
+  body-done k iv n c m = decryption-done (cbcD (E .format .cipher) k) n iv c m
 
-  -- the keys: deciphered and enciphered again, and the other way round
+  -- the keys: decrypted and encrypted again, and the other way round
   module _ (k : List ℕ) (hk : Sized 32 k) where
     abbrev ecb : List ℕ → List ℕ → List ℕ
     ecb = ecbE (E .format .cipher) k
@@ -59,15 +59,15 @@ module _ (E : Edition) (X : Laws E) where
     abbrev unecb : List ℕ → List ℕ → List ℕ
     unecb = ecbD (E .format .cipher) k
 
-    pub keys-sized : (c : List ℕ) → Sized 64 c → Sized 64 (keysOpened (E .format) k c .done)
-    keys-sized c h = rw (keys-done k c) (decipher-sized ecb unecb (ecb-laws (E .format .cipher) (X .ciphers) k hk) 4 (zeros 16) c (sized-zeros 16) h)
+    pub keys-sized : (c : List ℕ) → Sized 64 c → Sized 64 (keysDecrypted (E .format) k c .done)
+    keys-sized c h = rw (keys-done k c) (decrypted-sized ecb unecb (ecb-laws (E .format .cipher) (X .ciphers) k hk) 4 (zeros 16) c (sized-zeros 16) h)
 
-    keys-again : (c : List ℕ) → Sized 64 c → encipher ecb 4 (zeros 16) (keysOpened (E .format) k c .done) ≡ c
-    keys-again c h = rw (keys-done k c) (encipher-decipher ecb unecb (ecb-laws (E .format .cipher) (X .ciphers) k hk) 4 (zeros 16) c (sized-zeros 16) h)
+    keys-again : (c : List ℕ) → Sized 64 c → encrypted ecb 4 (zeros 16) (keysDecrypted (E .format) k c .done) ≡ c
+    keys-again c h = rw (keys-done k c) (encrypted-decrypted ecb unecb (ecb-laws (E .format .cipher) (X .ciphers) k hk) 4 (zeros 16) c (sized-zeros 16) h)
 
-    keys-back : (l : List ℕ) → Sized 64 l → keysOpened (E .format) k (encipher ecb 4 (zeros 16) l) .done ≡ l
+    keys-back : (l : List ℕ) → Sized 64 l → keysDecrypted (E .format) k (encrypted ecb 4 (zeros 16) l) .done ≡ l
     keys-back l h =
-        rw (keys-done k (encipher ecb 4 (zeros 16) l)) (decipher-encipher ecb unecb (ecb-laws (E .format .cipher) (X .ciphers) k hk) 4 (zeros 16) l (sized-zeros 16) h)
+        rw (keys-done k (encrypted ecb 4 (zeros 16) l)) (decrypted-encrypted ecb unecb (ecb-laws (E .format .cipher) (X .ciphers) k hk) 4 (zeros 16) l (sized-zeros 16) h)
 
     -- the same of the body
     module _ (iv : List ℕ) (hi : Sized 16 iv) (m : ℕ) where
@@ -77,23 +77,23 @@ module _ (E : Edition) (X : Laws E) where
       abbrev unchained : List ℕ → List ℕ → List ℕ
       unchained = cbcD (E .format .cipher) k
 
-      pub body-sized : (n : ℕ) (c : List ℕ) → Sized (16 * n) c → Sized (16 * n) (bodyOpened (E .format) k iv n c m .done)
-      body-sized n c h = rw (body-done k iv n c m) (decipher-sized chained unchained (cbc-laws (E .format .cipher) (X .ciphers) k hk) n iv c hi h)
+      pub body-sized : (n : ℕ) (c : List ℕ) → Sized (16 * n) c → Sized (16 * n) (bodyDecrypted (E .format) k iv n c m .done)
+      body-sized n c h = rw (body-done k iv n c m) (decrypted-sized chained unchained (cbc-laws (E .format .cipher) (X .ciphers) k hk) n iv c hi h)
 
-      body-again : (n : ℕ) (c : List ℕ) → Sized (16 * n) c → cbc (E .format) k iv (bodyOpened (E .format) k iv n c m .done) ≡ c
+      body-again : (n : ℕ) (c : List ℕ) → Sized (16 * n) c → cbc (E .format) k iv (bodyDecrypted (E .format) k iv n c m .done) ≡ c
       unfolding cbc
       body-again n c h =
-          let b : length (bodyOpened (E .format) k iv n c m .done) / 16 ≡ n = omega (arith, body-sized n c h .long) in
-          rw (b, body-done k iv n c m) (encipher-decipher chained unchained (cbc-laws (E .format .cipher) (X .ciphers) k hk) n iv c hi h)
+          let b : length (bodyDecrypted (E .format) k iv n c m .done) / 16 ≡ n = omega (arith, body-sized n c h .long) in
+          rw (b, body-done k iv n c m) (encrypted-decrypted chained unchained (cbc-laws (E .format .cipher) (X .ciphers) k hk) n iv c hi h)
 
-      body-back : (n : ℕ) (l : List ℕ) → length l / 16 ≡ n → Sized (16 * n) l → bodyOpened (E .format) k iv n (cbc (E .format) k iv l) m .done ≡ l
+      body-back : (n : ℕ) (l : List ℕ) → length l / 16 ≡ n → Sized (16 * n) l → bodyDecrypted (E .format) k iv n (cbc (E .format) k iv l) m .done ≡ l
       unfolding cbc
       body-back n l e h =
-          rw (e, body-done k iv n (encipher chained n iv l) m) (decipher-encipher chained unchained (cbc-laws (E .format .cipher) (X .ciphers) k hk) n iv l hi h)
+          rw (e, body-done k iv n (encrypted chained n iv l) m) (decrypted-encrypted chained unchained (cbc-laws (E .format .cipher) (X .ciphers) k hk) n iv l hi h)
 
       pub cbc-sized : (n : ℕ) (l : List ℕ) → length l / 16 ≡ n → Sized (16 * n) l → Sized (16 * n) (cbc (E .format) k iv l)
       unfolding cbc
-      cbc-sized n l e h = rw e (encipher-sized chained unchained (cbc-laws (E .format .cipher) (X .ciphers) k hk) n iv l hi h)
+      cbc-sized n l e h = rw e (encrypted-sized chained unchained (cbc-laws (E .format .cipher) (X .ciphers) k hk) n iv l hi h)
 
   -- accepted: a safe
   module _ (file pass : List ℕ) (ceiling room : ℕ) (fb : Bytes file) where
@@ -128,9 +128,9 @@ module _ (E : Edition) (X : Laws E) where
         let hkeys : Sized 64 (p .keys) = record { long = l .keys-long; bytes = b .keys-bytes } in
         let hc : Sized (16 * n) (p .encrypted) = record { long = l .encrypted-long ∙ whole; bytes = b .encrypted-bytes } in
         let hk = keys-sized (s .key) hs (p .keys) hkeys in
-        let hK : Sized 32 (keyK (E .format) p (s .key)) = sized-take 32 64 (keysOpened (E .format) (s .key) (p .keys) .done) (lit≤ tt) hk in
-        let hL : Sized 32 (keyL (E .format) p (s .key)) = sized-drop 32 64 32 (keysOpened (E .format) (s .key) (p .keys) .done) refl hk in
-        let count = keysOpened (E .format) (s .key) (p .keys) .count in
+        let hK : Sized 32 (keyK (E .format) p (s .key)) = sized-take 32 64 (keysDecrypted (E .format) (s .key) (p .keys) .done) (lit≤ tt) hk in
+        let hL : Sized 32 (keyL (E .format) p (s .key)) = sized-drop 32 64 32 (keysDecrypted (E .format) (s .key) (p .keys) .done) refl hk in
+        let count = keysDecrypted (E .format) (s .key) (p .keys) .count in
         let hb : Sized (16 * n) (bodyOf (E .format) p (s .key) n .done) = body-sized (keyK (E .format) p (s .key)) hK (p .iv) hiv count n (p .encrypted) hc in
         let blocks : length (bodyOf (E .format) p (s .key) n .done) / 16 ≡ n = omega (arith, hb .long) in
         let ec : cbc (E .format) (keyK (E .format) p (s .key)) (p .iv) (bodyOf (E .format) p (s .key) n .done) ≡ p .encrypted = body-again (keyK (E .format) p (s .key)) hK (p .iv) hiv count n (p .encrypted) hc in
@@ -154,7 +154,7 @@ module _ (E : Edition) (X : Laws E) where
           is-file = sym (join-split file (omega arith)) ∙ ap join (parts-are
               (same-of (p .tag) tag (e .t4)) (sym (iter-again (p .iter) (b .iter-bytes) (l .iter-long)))
               (sym (same-of (s .check) (p .check) (m .t8)))
-              (sym (rw (take-append-drop 32 (keysOpened (E .format) (s .key) (p .keys) .done)) (keys-again (s .key) hs (p .keys) hkeys)))
+              (sym (rw (take-append-drop 32 (keysDecrypted (E .format) (s .key) (p .keys) .done)) (keys-again (s .key) hs (p .keys) hkeys)))
               (sym ec) (mk .1) (sym (same-of (E .format .hmac (keyL (E .format) p (s .key)) (E .covered (bodyOf (E .format) p (s .key) n .done))) (p .mac) (w .mac))));
         }
 
@@ -179,7 +179,7 @@ module _ (E : Edition) (X : Laws E) where
       salt-long = z .salt-sized .long;
       iter-long = bytes-sized 4 iter .long;
       check-long = X .check-sized pass salt iter .long;
-      keys-long = encipher-sized (ecbE (E .format .cipher) (key .key)) (ecbD (E .format .cipher) (key .key)) (ecb-laws (E .format .cipher) (X .ciphers) (key .key) (X .key-sized pass salt iter)) 4 (zeros 16) (K ++ L)
+      keys-long = encrypted-sized (ecbE (E .format .cipher) (key .key)) (ecbD (E .format .cipher) (key .key)) (ecb-laws (E .format .cipher) (X .ciphers) (key .key) (X .key-sized pass salt iter)) 4 (zeros 16) (K ++ L)
           (sized-zeros 16) (sized-append 32 32 K L (z .K-sized) (z .L-sized)) .long;
       iv-long = z .iv-sized .long;
       encrypted-long = cbc-sized K (z .K-sized) iv (z .iv-sized) 0 k body refl body-is .long ∙ sym (body-is .long);
@@ -234,7 +234,7 @@ module _ (E : Edition) (X : Laws E) where
         ∙ ap₂ (λ (p : Parts) (n : ℕ). checked E p (E .format .stretched pass (p .salt) (numberLow (p .iter))) n) split-is blocks-are
         ∙ ap (λ (i : ℕ). checked E q (E .format .stretched pass salt i) k) iter-is
 
-    keys-are : keysOpened (E .format) (key .key) (q .keys) .done ≡ K ++ L
+    keys-are : keysDecrypted (E .format) (key .key) (q .keys) .done ≡ K ++ L
     unfolding partsOf wrapped
     keys-are = keys-back (key .key) (X .key-sized pass salt iter) (K ++ L) (sized-append 32 32 K L (z .K-sized) (z .L-sized))
 
@@ -247,8 +247,8 @@ module _ (E : Edition) (X : Laws E) where
     done-is : bodyOf (E .format) q (key .key) k .done ≡ body
     unfolding partsOf
     done-is =
-        ap (λ (x : List ℕ). bodyOpened (E .format) x iv k (cbc (E .format) K iv body) (keysOpened (E .format) (key .key) (q .keys) .count) .done) K-is
-        ∙ body-back K (z .K-sized) iv (z .iv-sized) (keysOpened (E .format) (key .key) (q .keys) .count) k body refl body-is
+        ap (λ (x : List ℕ). bodyDecrypted (E .format) x iv k (cbc (E .format) K iv body) (keysDecrypted (E .format) (key .key) (q .keys) .count) .done) K-is
+        ∙ body-back K (z .K-sized) iv (z .iv-sized) (keysDecrypted (E .format) (key .key) (q .keys) .count) k body refl body-is
 
     q-matches : Matches q key
     unfolding partsOf

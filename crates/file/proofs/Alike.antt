@@ -10,10 +10,10 @@ use borrow.Author.Tests.{ltb-false}
 use Rattle.words.specs.Numbers.{Bytes, numberLow}
 use Rattle.words.specs.Slices.{zeros}
 use Rattle.chain.specs.Modes.{ecbD, cbcD}
-use Rattle.chain.proofs.StepLaws.{opened-count}
+use Rattle.chain.proofs.StepLaws.{decryption-count}
 use Rattle.file.specs.Layout.{Parts, split, differ}
 use Rattle.file.specs.Edition.{Edition, Stretched, Laws, compressionsOf}
-use Rattle.file.specs.Reading.{Report, refused, accepted, keysOpened, bodyOpened, keyK, bodyOf, checked, readingOf}
+use Rattle.file.specs.Reading.{Report, refused, accepted, keysDecrypted, bodyDecrypted, keyK, bodyOf, checked, readingOf}
 use Rattle.file.proofs.PartLaws.{lengths, split-sizes, bytes-split, iter-small}
 use Rattle.file.proofs.Passed.{Late, early, passed-early, Matches, late-passed, is-accepted, is-nine, is-eight}
 use Rattle.file.proofs.Accepted.{good-length}
@@ -23,11 +23,11 @@ other true h = refl
 other false h = absurd (h refl)
 
 module _ (E : Edition) (X : Laws E) where
-  pub count-opened : (p : Parts) (P′ : List ℕ) (n : ℕ) → bodyOf (E .format) p P′ n .count ≡ 4 + n
-  unfolding keysOpened bodyOpened
-  count-opened p P′ n =
-      opened-count (cbcD (E .format .cipher) (keyK (E .format) p P′)) n (p .iv) (p .encrypted) (keysOpened (E .format) P′ (p .keys) .count)
-      ∙ ap (λ (k : ℕ). k + n) (opened-count (ecbD (E .format .cipher) P′) 4 (zeros 16) (p .keys) 0)
+  pub count-decrypted : (p : Parts) (P′ : List ℕ) (n : ℕ) → bodyOf (E .format) p P′ n .count ≡ 4 + n
+  unfolding keysDecrypted bodyDecrypted
+  count-decrypted p P′ n =
+      decryption-count (cbcD (E .format .cipher) (keyK (E .format) p P′)) n (p .iv) (p .encrypted) (keysDecrypted (E .format) P′ (p .keys) .count)
+      ∙ ap (λ (k : ℕ). k + n) (decryption-count (ecbD (E .format .cipher) P′) 4 (zeros 16) (p .keys) 0)
 
   -- a reading that is refused by none of 1 to 7
   module _ (file pass : List ℕ) (ceiling room : ℕ) (fb : Bytes file) (h : Late (readingOf E file pass ceiling room .number)) where
@@ -54,7 +54,7 @@ module _ (E : Edition) (X : Laws E) where
         → readingOf E file pass ceiling room ≡ refused 9 (compressionsOf (length pass) (numberLow (split file .iter))) (4 + (length file - 200) / 16)
     matched m n = reading-is
         ∙ is-nine E (split file) key ((length file - 200) / 16) m (λ e. n (ap (λ (r : Report). r .number) reading-is ∙ e))
-        ∙ ap₂ (refused 9) compressed (count-opened (split file) (key .key) ((length file - 200) / 16))
+        ∙ ap₂ (refused 9) compressed (count-decrypted (split file) (key .key) ((length file - 200) / 16))
 
     pub opened-counts : readingOf E file pass ceiling room .number ≡ 0
         → (readingOf E file pass ceiling room .compressions ≡ compressionsOf (length pass) (numberLow (split file .iter)))
@@ -63,7 +63,7 @@ module _ (E : Edition) (X : Laws E) where
     opened-counts n =
         let w = late-passed E (split file) key ((length file - 200) / 16) (sym (ap (λ (r : Report). r .number) reading-is) ∙ n) in
         let x = reading-is ∙ is-accepted E (split file) key ((length file - 200) / 16) (w .0) (w .1) in
-        (ap (λ (r : Report). r .compressions) x ∙ compressed, ap (λ (r : Report). r .blocks) x ∙ count-opened (split file) (key .key) ((length file - 200) / 16))
+        (ap (λ (r : Report). r .compressions) x ∙ compressed, ap (λ (r : Report). r .blocks) x ∙ count-decrypted (split file) (key .key) ((length file - 200) / 16))
 
   -- DEMAND 3
   module _ (file file′ pass pass′ : List ℕ) (ceiling ceiling′ room : ℕ) (fb : Bytes file) (fb′ : Bytes file′)

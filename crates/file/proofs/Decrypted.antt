@@ -7,15 +7,15 @@ use lib.Dec.{lit≤}
 use lib.ListN.{length, drop-of-length-le}
 use Rattle.words.specs.Numbers.{Bytes, Sized}
 use Rattle.words.proofs.ByteLaws.{sized-take}
-use Rattle.chain.specs.Modes.{cbcD, decipher}
-use Rattle.chain.specs.Opening.{Opening}
-use Rattle.chain.proofs.StepLaws.{opened-rest}
+use Rattle.chain.specs.Modes.{cbcD, decrypted}
+use Rattle.chain.specs.Decryption.{Decryption}
+use Rattle.chain.proofs.StepLaws.{decryption-rest}
 use Rattle.file.specs.Layout.{Parts, split}
 use Rattle.file.specs.Edition.{Edition, Laws}
-use Rattle.file.specs.Reading.{keysOpened, bodyOpened, keyK, bodyOf}
+use Rattle.file.specs.Reading.{keysDecrypted, bodyDecrypted, keyK, bodyOf}
 use Rattle.file.proofs.PartLaws.{lengths, split-sizes, bytes-split}
 use Rattle.file.proofs.Accepted.{keys-sized, body-sized, body-done}
-use Rattle.file.proofs.Alike.{count-opened}
+use Rattle.file.proofs.Alike.{count-decrypted}
 
 module _ (E : Edition) (X : Laws E) (file P′ : List ℕ) (fb : Bytes file) (sized : Sized 32 P′) where
   abbrev p : Parts
@@ -24,18 +24,18 @@ module _ (E : Edition) (X : Laws E) (file P′ : List ℕ) (fb : Bytes file) (si
   abbrev n : ℕ
   n = (length file - 200) / 16
 
-  abbrev o : Opening
+  abbrev o : Decryption
   o = bodyOf (E .format) p P′ n
 
   pub whole-body : length file ≡ 200 + 16 * n
-      → (o .done ≡ decipher (cbcD (E .format .cipher) (keyK (E .format) p P′)) n (p .iv) (p .encrypted))
+      → (o .done ≡ decrypted (cbcD (E .format .cipher) (keyK (E .format) p P′)) n (p .iv) (p .encrypted))
       × (length (o .done) ≡ length file - 200)
       × (o .rest ≡ [])
       × (o .count ≡ 4 + n)
       × Bytes (o .done)
-  unfolding bodyOpened
+  unfolding bodyDecrypted
   whole-body whole =
-      let ks = keysOpened (E .format) P′ (p .keys) in
+      let ks = keysDecrypted (E .format) P′ (p .keys) in
       let l = lengths p (length file - 200) (split-sizes file (omega arith)) in
       let b = bytes-split file fb in
       let long : length file - 200 ≡ 16 * n = omega arith in
@@ -44,7 +44,7 @@ module _ (E : Edition) (X : Laws E) (file P′ : List ℕ) (fb : Bytes file) (si
       n (p .encrypted) (record { long = l .encrypted-long ∙ long; bytes = b .encrypted-bytes }) in (
         body-done E X (keyK (E .format) p P′) (p .iv) n (p .encrypted) (ks .count),
         hb .long ∙ sym long,
-        opened-rest (cbcD (E .format .cipher) (keyK (E .format) p P′)) n (p .iv) (p .encrypted) (ks .count) ∙ drop-of-length-le (p .encrypted) {i = 16 * n} (omega (arith, l .encrypted-long)),
-        count-opened E X p P′ n,
+        decryption-rest (cbcD (E .format .cipher) (keyK (E .format) p P′)) n (p .iv) (p .encrypted) (ks .count) ∙ drop-of-length-le (p .encrypted) {i = 16 * n} (omega (arith, l .encrypted-long)),
+        count-decrypted E X p P′ n,
         hb .bytes,
       )

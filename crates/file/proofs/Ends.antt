@@ -12,7 +12,7 @@ use lib.ListN.{length}
 use borrow.Author.Tests.{ltb-false, le-ltb, eq-eqb, eqb-true, eqb-false}
 use Rattle.words.specs.Numbers.{numberLow}
 use Rattle.words.specs.Slices.{zeros}
-use Rattle.chain.specs.Opening.{Opening}
+use Rattle.chain.specs.Decryption.{Decryption}
 use Rattle.file.specs.Layout.{Parts, split, differ}
 use Rattle.file.specs.Refusals.{Test, First, here, later}
 use Rattle.file.proofs.Tables.{between, Decided, passes, stops, decide, first-stops, first-between}
@@ -47,7 +47,7 @@ module _ (E : Edition) (file pass : List ℕ) (ceiling room : ℕ) where
   abbrev s : Stretched
   s = E .format .stretched pass (p .salt) (numberLow (p .iter))
 
-  abbrev o : Opening
+  abbrev o : Decryption
   o = bodyOf (E .format) p (s .key) n
 
   abbrev r : Report

@@ -7,7 +7,7 @@ use native.Mathlib.Omega.{arith}
 use lib.Dec.{ltb, eqb}
 use lib.ListN.{length, drop}
 use Rattle.words.specs.Numbers.{numberLow}
-use Rattle.chain.specs.Opening.{Opening}
+use Rattle.chain.specs.Decryption.{Decryption}
 use Rattle.file.specs.Layout.{Parts, split, tag, differ, firstMarker}
 use Rattle.file.specs.Refusals.{First}
 use Rattle.file.proofs.Tables.{Pass, Decided, passes, stops, decide, all-pass, first-stops, first-between}
@@ -72,7 +72,7 @@ pub record Whole (E : Edition) (p : Parts) (s : Stretched) (n : ℕ) : Type 0 wh
   pub mac : differ (E .format .hmac (keyL (E .format) p (s .key)) (E .covered (bodyOf (E .format) p (s .key) n .done))) (p .mac) ≡ false
 
 module _ (E : Edition) (p : Parts) (s : Stretched) (n : ℕ) where
-  abbrev o : Opening
+  abbrev o : Decryption
   o = bodyOf (E .format) p (s .key) n
 
   abbrev bad : Bool

@@ -5,18 +5,18 @@ use mathlib.Core.List.{List, _++_}
 use lib.ListN.{length, take, drop}
 use Rattle.words.specs.Numbers.{Bytes, Sized, bytesLow}
 use Rattle.words.specs.Slices.{zeros}
-use Rattle.chain.specs.Modes.{ecbE, cbcE, encipher}
+use Rattle.chain.specs.Modes.{ecbE, cbcE, encrypted}
 use Rattle.file.specs.Layout.{Parts, join, tag, marker}
 use Rattle.file.specs.Edition.{Format}
 
 module _ (F : Format) where
   -- B1 to B4: keys K and L, in ECB under P'
   unfoldable pub wrapped : (P′ K L : List ℕ) → List ℕ
-  wrapped P′ K L = encipher (ecbE (F .cipher) P′) 4 (zeros 16) (K ++ L)
+  wrapped P′ K L = encrypted (ecbE (F .cipher) P′) 4 (zeros 16) (K ++ L)
 
   -- the body, in CBC under K
   unfoldable pub cbc : (K iv body : List ℕ) → List ℕ
-  cbc K iv body = encipher (cbcE (F .cipher) K) (length body / 16) iv body
+  cbc K iv body = encrypted (cbcE (F .cipher) K) (length body / 16) iv body
 
   -- the parts of the file of a body whose HMAC covers the bytes covered
   unfoldable pub partsOf : (passphrase salt : List ℕ) (iter : ℕ) (K L iv body covered : List ℕ) → Parts

@@ -8,7 +8,7 @@ use lib.ListN.{length, take, drop}
 use Rattle.words.specs.Numbers.{numberLow}
 use Rattle.words.specs.Slices.{zeros}
 use Rattle.chain.specs.Modes.{ecbD, cbcD}
-use Rattle.chain.specs.Opening.{Opening, opening, step, run}
+use Rattle.chain.specs.Decryption.{Decryption, decryption, step, run}
 use Rattle.file.specs.Layout.{Parts, split, tag, differ, firstMarker}
 use Rattle.file.specs.Refusals.{Test, refuse-if, deciding}
 use Rattle.file.specs.Edition.{Format, Edition, Stretched}
@@ -57,21 +57,21 @@ module _ (F : Format) where
       ∷ []
 
   -- the two keys decrypted; then the body, whose count goes on from theirs
-  unfoldable pub keysOpened : (P′ keys : List ℕ) → Opening
-  keysOpened P′ keys = run (step (ecbD (F .cipher) P′)) 4 (opening (zeros 16) keys 0)
+  unfoldable pub keysDecrypted : (P′ keys : List ℕ) → Decryption
+  keysDecrypted P′ keys = run (step (ecbD (F .cipher) P′)) 4 (decryption (zeros 16) keys 0)
 
-  unfoldable pub bodyOpened : (K iv : List ℕ) → ℕ → List ℕ → ℕ → Opening
-  bodyOpened K iv n cipher count = run (step (cbcD (F .cipher) K)) n (opening iv cipher count)
+  unfoldable pub bodyDecrypted : (K iv : List ℕ) → ℕ → List ℕ → ℕ → Decryption
+  bodyDecrypted K iv n cipher count = run (step (cbcD (F .cipher) K)) n (decryption iv cipher count)
 
   abbrev pub keyK : Parts → (P′ : List ℕ) → List ℕ
-  keyK p P′ = take 32 (keysOpened P′ (p .keys) .done)
+  keyK p P′ = take 32 (keysDecrypted P′ (p .keys) .done)
 
   abbrev pub keyL : Parts → (P′ : List ℕ) → List ℕ
-  keyL p P′ = drop 32 (keysOpened P′ (p .keys) .done)
+  keyL p P′ = drop 32 (keysDecrypted P′ (p .keys) .done)
 
   -- the whole body decrypted
-  abbrev pub bodyOf : Parts → (P′ : List ℕ) → ℕ → Opening
-  bodyOf p P′ n = bodyOpened (keyK p P′) (p .iv) n (p .encrypted) (keysOpened P′ (p .keys) .count)
+  abbrev pub bodyOf : Parts → (P′ : List ℕ) → ℕ → Decryption
+  bodyOf p P′ n = bodyDecrypted (keyK p P′) (p .iv) n (p .encrypted) (keysDecrypted P′ (p .keys) .count)
 
 module _ (E : Edition) where
   -- accepted: the keys, the two counts, and the body with the counts of its header fields and records

@@ -6,7 +6,7 @@ ghost use Rattle.sha256.specs.Sha256.{sha256};
 ghost use Rattle.sha256.specs.Hmac.{hmacOf};
 ghost use Rattle.stretch.specs.Stretch.{startOf, stretchedOf, keyOf};
 ghost use Rattle.chain.specs.Modes.{cbcE, cbcD};
-ghost use Rattle.chain.specs.Memory.{sealedInto, opened, Handed};
+ghost use Rattle.chain.specs.Memory.{encryptedInto, decryptedInPlace, Handed};
 ghost use Rattle.chain.specs.Twofish.{twofishCipher};
 
 #[no_mangle]
@@ -82,7 +82,7 @@ pub extern "C" fn probe_stretch(
 // The blocks decrypted.
 #[no_mangle]
 pub extern "C" fn probe_decrypt(key: &[u8; 32], iv: &[u8; 16], text: &mut [u8]) -> u64
-    ensures { λ r. ⌜ Handed (opened (cbcD twofishCipher (now (key .entry))) (now (iv .entry)) (now (text .entry)) 0) (now (text .exit)) r ⌝ }
+    ensures { λ r. ⌜ Handed (decryptedInPlace (cbcD twofishCipher (now (key .entry))) (now (iv .entry)) (now (text .entry)) 0) (now (text .exit)) r ⌝ }
 {
     chain::cbc_decrypt(key, iv, text, 0)
 }
@@ -90,7 +90,7 @@ pub extern "C" fn probe_decrypt(key: &[u8; 32], iv: &[u8; 16], text: &mut [u8]) 
 // `from`, encrypted into the start of `to`.
 #[no_mangle]
 pub extern "C" fn probe_encrypt(key: &[u8; 32], iv: &[u8; 16], from: &[u8], to: &mut [u8])
-    ensures { λ _. ⌜ now (to .exit) ≡ sealedInto (cbcE twofishCipher (now (key .entry))) (now (iv .entry)) (now (from .entry)) (now (to .entry)) ⌝ }
+    ensures { λ _. ⌜ now (to .exit) ≡ encryptedInto (cbcE twofishCipher (now (key .entry))) (now (iv .entry)) (now (from .entry)) (now (to .entry)) ⌝ }
 {
     chain::cbc_encrypt(key, iv, from, to);
 }

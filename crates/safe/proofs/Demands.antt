@@ -13,7 +13,7 @@ use Rattle.sha256.specs.Sha256.{sha256}
 use Rattle.sha256.specs.Hmac.{hmacOf}
 use Rattle.stretch.specs.Stretch.{startOf, stepOf, stretchedOf, keyOf}
 use Rattle.stretch.proofs.Counts.{step-key}
-use Rattle.chain.specs.Modes.{ecbE, cbcE, cbcD, encipher, decipher}
+use Rattle.chain.specs.Modes.{ecbE, cbcE, cbcD, encrypted, decrypted}
 use Rattle.chain.specs.Twofish.{twofishCipher}
 use Rattle.body.specs.Sections.{covered}
 use Rattle.body.specs.WellFormed.{WellFormed}
@@ -27,7 +27,7 @@ use Rattle.file.specs.Writing.{Writing, writeTests, writingOf}
 use Rattle.file.proofs.Accepted as Accepted
 use Rattle.file.proofs.Written as Written
 use Rattle.file.proofs.Passed.{Late}
-use Rattle.file.proofs.Alike.{count-opened, compressed, matched, alike-matched, alike-unmatched}
+use Rattle.file.proofs.Alike.{count-decrypted, compressed, matched, alike-matched, alike-unmatched}
 use Rattle.file.proofs.Ends as Ends
 use Rattle.file.proofs.Nine.{nine}
 use Rattle.file.proofs.Prefix.{no-prefix}
@@ -106,9 +106,9 @@ pub file-described : {passphrase file salt : List ℕ} {iter : ℕ} {K L iv body
     ∷ salt
     ∷ bytesLow 4 iter
     ∷ sha256 P′
-    ∷ encipher (ecbE twofishCipher P′) 4 (zeros 16) (K ++ L)
+    ∷ encrypted (ecbE twofishCipher P′) 4 (zeros 16) (K ++ L)
     ∷ iv
-    ∷ encipher (cbcE twofishCipher K) (length body / 16) iv body
+    ∷ encrypted (cbcE twofishCipher K) (length body / 16) iv body
     ∷ marker
     ∷ hmacOf L (z .covered)
     ∷ [])
@@ -284,14 +284,14 @@ module _ {file passphrase before after : List ℕ} {ceiling : ℕ} {r : Reading}
   counts-blocks =
       told (λ n a b. (OneToSeven n → ⊥) → (n ≡ 8 → ⊥) → b ≡ 4 + blocksIn file)
       (λ past checked. Ends.blocks-held v3Edition file passphrase ceiling room (late past) checked
-      ∙ count-opened v3Edition v3-laws (split file) (v3 .stretched passphrase (saltIn file) (iterIn file) .key) (blocksIn file))
+      ∙ count-decrypted v3Edition v3-laws (split file) (v3 .stretched passphrase (saltIn file) (iterIn file) .key) (blocksIn file))
 
   -- The report is the count that the last step hands on, and nothing else sets it or adds to it; unless the reading ends in 1 to 8, the state it belongs to, before any
   -- zeroing, is the whole body decrypted: whatever meets the contract of `decrypt` hands on a memory, keys and a count, and whatever meets that of `settle` makes of them
   -- the answer of the call, and the front of its workspace.
   pub counts-state : (OneToSeven (numberOf r) → ⊥) → (numberOf r ≡ 8 → ⊥) → {memory left : List ℕ} {keys : Keys} {r′ : Reading}
       → Decrypts file (stretchedIn passphrase file) memory keys → Settles keys (macIn file) (r .compressions) memory left r′
-      → (memory ≡ decipher (cbcD twofishCipher (keyKIn passphrase file)) (blocksIn file) (ivIn file) (encryptedIn file))
+      → (memory ≡ decrypted (cbcD twofishCipher (keyKIn passphrase file)) (blocksIn file) (ivIn file) (encryptedIn file))
       × (length memory ≡ length file - 200)
       × (keys .count ≡ 4 + blocksIn file)
       × (r .blocks ≡ keys .count)

@@ -12,10 +12,10 @@ use Rattle.words.specs.Slices.{zeros}
 use Rattle.words.proofs.NumberLaws.{four-low, bytes-sized}
 use Rattle.sha256.specs.Hmac.{hmacOf}
 use Rattle.body.specs.Decision.{coveredOf}
-use Rattle.chain.specs.Modes.{cbcE, encipher}
-use Rattle.chain.specs.Memory.{sealedInto}
+use Rattle.chain.specs.Modes.{cbcE, encrypted}
+use Rattle.chain.specs.Memory.{encryptedInto}
 use Rattle.chain.specs.Twofish.{twofishCipher}
-use Rattle.chain.proofs.MemoryLaws.{sealed-into}
+use Rattle.chain.proofs.MemoryLaws.{encrypted-into}
 use Rattle.file.specs.Layout.{tag, marker, join, listed, glue, firstMarker}
 use Rattle.file.specs.Edition.{Stretched}
 use Rattle.file.specs.Description.{wrapped, cbc, partsOf, fileOf}
@@ -57,7 +57,7 @@ head-laid s salt iter K L iv i check keys n h z ls lc lk li ei ec ek e₁ e₂ e
 -- the body, encrypted behind a head of 152 bytes
 module _ (H K iv body o₁ new : List ℕ) (n : ℕ) (h : 200 + length body ≤ n) (w : length body ≡ 16 * (length body / 16)) (lo : length o₁ ≡ n)
     (e₁ : o₁ ≡ H ++ zeros (n - 152)) (ln : length new ≡ length (take (152 + length body - 152) (drop 152 o₁)))
-    (en : new ≡ sealedInto (cbcE twofishCipher K) iv body (take (152 + length body - 152) (drop 152 o₁))) where
+    (en : new ≡ encryptedInto (cbcE twofishCipher K) iv body (take (152 + length body - 152) (drop 152 o₁))) where
   k : 152 + length body - 152 ≡ length body
   k = omega arith
 
@@ -80,10 +80,10 @@ module _ (H K iv body o₁ new : List ℕ) (n : ℕ) (h : 200 + length body ≤ 
   new-is =
       let l = part-long in
       en
-      ∙ sealed-into (cbcE twofishCipher K) (length body / 16) iv body (take (152 + length body - 152) (drop 152 o₁)) w (omega arith)
-      ∙ ap (λ (x : List ℕ). encipher (cbcE twofishCipher K) (length body / 16) iv body ++ x)
+      ∙ encrypted-into (cbcE twofishCipher K) (length body / 16) iv body (take (152 + length body - 152) (drop 152 o₁)) w (omega arith)
+      ∙ ap (λ (x : List ℕ). encrypted (cbcE twofishCipher K) (length body / 16) iv body ++ x)
       (drop-of-length-le (take (152 + length body - 152) (drop 152 o₁)) {i = 16 * (length body / 16)} (omega arith))
-      ∙ append-nil (encipher (cbcE twofishCipher K) (length body / 16) iv body)
+      ∙ append-nil (encrypted (cbcE twofishCipher K) (length body / 16) iv body)
 
   module _ (o₂ : List ℕ) (e₂ : o₂ ≡ take 152 o₁ ++ (new ++ drop (152 + length body - 152) (drop 152 o₁))) where
     pub body-laid : o₂ ≡ (H ++ new) ++ zeros (n - 152 - length body)

@@ -9,7 +9,7 @@ use borrow.Author.Tests.{ltb-false}
 use Rattle.words.specs.Slices.{zeros, same}
 use Rattle.stretch.specs.Stretch.{startOf, stretchedOf}
 use Rattle.stretch.proofs.Counts.{key-sized}
-use Rattle.chain.specs.Modes.{cbcD, decipher}
+use Rattle.chain.specs.Modes.{cbcD, decrypted}
 use Rattle.chain.specs.Twofish.{twofishCipher}
 use Rattle.file.specs.Layout.{split}
 use Rattle.file.specs.Edition.{Stretched}
@@ -89,7 +89,7 @@ module _ {file passphrase before after : List ℕ} {ceiling : ℕ} {r : Reading}
     -- its count is the one that was handed on, and belongs to the whole body decrypted
     pub state-held : (r′ .blocks ≡ keys .count)
         × (keys .count ≡ 4 + blocksIn file)
-        × (memory ≡ decipher (cbcD twofishCipher (keyKIn passphrase file)) (blocksIn file) (ivIn file) (encryptedIn file))
+        × (memory ≡ decrypted (cbcD twofishCipher (keyKIn passphrase file)) (blocksIn file) (ivIn file) (encryptedIn file))
         × (length memory ≡ length file - 200)
     unfolding v3
     state-held =

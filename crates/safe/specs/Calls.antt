@@ -7,7 +7,7 @@ use Rattle.words.specs.Numbers.{Bytes, numberLow}
 use Rattle.words.specs.Slices.{zeros}
 use Rattle.sha256.specs.Sha256.{sha256}
 use Rattle.stretch.specs.Stretch.{startOf, stretchedOf, keyOf}
-use Rattle.chain.specs.Opening.{Opening}
+use Rattle.chain.specs.Decryption.{Decryption}
 use Rattle.file.specs.Layout.{split}
 use Rattle.file.specs.Reading.{Report, workspaceOf, keyK, keyL, bodyOf, readingOf}
 use Rattle.file.specs.Writing.{writingOf, Values}
@@ -52,7 +52,7 @@ keyKIn passphrase file = keyK v3 (split file) (stretchedIn passphrase file)
 abbrev pub keyLIn : (passphrase file : List ℕ) → List ℕ
 keyLIn passphrase file = keyL v3 (split file) (stretchedIn passphrase file)
 
-abbrev pub lastState : (passphrase file : List ℕ) → Opening
+abbrev pub lastState : (passphrase file : List ℕ) → Decryption
 lastState passphrase file = bodyOf v3 (split file) (stretchedIn passphrase file) (blocksIn file)
 
 -- the number of an answer, 0 where it is an acceptance; and the numbers 1 to 7, which come before any work

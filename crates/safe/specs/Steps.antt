@@ -10,10 +10,10 @@ use Rattle.sha256.specs.Hmac.{hmacOf}
 use Rattle.body.specs.Decision.{wellFormed, coveredOf, headersOf, recordsOf}
 use Rattle.body.specs.declared.Judged.{Judged}
 use Rattle.body.specs.declared.Judged.the-variants.{Counts, NotWellFormed}
-use Rattle.chain.specs.Opening.{Opening}
+use Rattle.chain.specs.Decryption.{Decryption}
 use Rattle.file.specs.Layout.{split}
 use Rattle.file.specs.Refusals.{deciding}
-use Rattle.file.specs.Reading.{Report, earlyTests, keysOpened, keyK, keyL, bodyOf, settled, checked}
+use Rattle.file.specs.Reading.{Report, earlyTests, keysDecrypted, keyK, keyL, bodyOf, settled, checked}
 use Rattle.file.specs.Writing.{earlyWriteTests}
 use Rattle.safe.specs.V3.{v3, v3Edition, stretchedV3}
 use Rattle.safe.specs.Calls.{saltIn, iterIn, blocksIn, Reports}
@@ -42,12 +42,12 @@ pub record Ready (file workspace : List ℕ) : Type 0 where
 
 -- the two keys decrypted, and the count of that state
 pub record Unwrapped (key keys : List ℕ) (r : Keys) : Type 0 where
-  pub k : r .k ≡ take 32 (keysOpened v3 key keys .done)
-  pub l : r .l ≡ drop 32 (keysOpened v3 key keys .done)
-  pub count : r .count ≡ keysOpened v3 key keys .count
+  pub k : r .k ≡ take 32 (keysDecrypted v3 key keys .done)
+  pub l : r .l ≡ drop 32 (keysDecrypted v3 key keys .done)
+  pub count : r .count ≡ keysDecrypted v3 key keys .count
 
 -- the state that the last block of the body leaves
-abbrev pub stateUnder : (file P′ : List ℕ) → Opening
+abbrev pub stateUnder : (file P′ : List ℕ) → Decryption
 stateUnder file P′ = bodyOf v3 (split file) P′ (blocksIn file)
 
 -- decrypted under P': the keys, the memory holds that state's text, and the count is that state's own

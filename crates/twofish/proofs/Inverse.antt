@@ -1,9 +1,9 @@
--- For every key of 32 bytes and block of 16 bytes, decryption undoes encryption and encryption decryption: the subkeys are words, four words
+-- For every key and block of 16 bytes, decryption undoes encryption and encryption decryption: the subkeys are words, four words
 -- are 16 bytes and back, and the rounds undo each other.
 use mathlib.Core.Path.{_≡_, refl, sym, ap, ap₂, _∙_}
 use mathlib.Core.Bool.{Bool, true, false, cond}
 use mathlib.Core.List.{List, [], _∷_, _++_}
-use Prim.Native.Nat.{ℕ, zero, suc, _+_, _*_, _/_, _%_, _^_, _<_}
+use Prim.Native.Nat.{ℕ, _+_, _*_, _/_, _%_, _^_, _<_}
 use native.Mathlib.Nat.{mod-eq-of-lt}
 use native.Mathlib.Omega.{arith}
 use lib.Dec.{eqb, lit<}
@@ -12,23 +12,18 @@ use Rattle.words.specs.Numbers.{bytesLow, byteOf, Bytes, none, more, Sized}
 use Rattle.words.proofs.ByteLaws.{byte-at, sized-append}
 use Rattle.words.proofs.NumberLaws.{number-bytes, bytes-number, number-fits, bytes-sized, four-low}
 use Rattle.words.proofs.RotationLaws.{left-fits}
-use Rattle.twofish.specs.Table.{at, from}
+use Rattle.words.specs.Table.{at}
 use Rattle.twofish.specs.Q.{q0, q1}
 use Rattle.twofish.specs.Key.{evens, odds, wordA, wordB, subkey, subkeys, g}
-use Rattle.twofish.specs.Twofish.{blockOf, bytesOf, encryptWords, decryptWords, encryptBlock, decryptBlock}
+use Rattle.twofish.specs.Twofish.{blockOf, blockBytes, encryptWords, decryptWords, encryptBlock, decryptBlock}
 use Rattle.twofish.specs.declared.Block.{Block}
-use Rattle.twofish.proofs.Listed.{is-table}
+use Rattle.words.proofs.Tables.{table-fits, is-table}
 use Rattle.twofish.proofs.Rounds.{Words, blocks, decrypt-encrypt, encrypt-decrypt, encrypt-words, decrypt-words}
 
 -- the subkeys are words
 picked : (n : ℕ) (b : Bool) {x y : ℕ} → x < n → y < n → cond b x y < n
 picked n true p q = p
 picked n false p q = q
-
-listed : (n : ℕ) (f : ℕ → ℕ) (i k : ℕ) → ((j : ℕ) → f j < 2 ^ 32) → at (from n f i) k < 2 ^ 32
-listed zero f i k h = lit< tt
-listed (suc n) f i zero h = h i
-listed (suc n) f i (suc k) h = listed n f (suc i) k h
 
 subkey-fits : (p q : ℕ → ℕ) (e o : List ℕ) (j : ℕ) → subkey p q e o j < 2 ^ 32
 unfolding subkey
@@ -38,7 +33,7 @@ subkey-fits p q e o j =
 
 fits : (m : List ℕ) (i : ℕ) → at (subkeys q0 q1 m) i < 2 ^ 32
 unfolding subkeys
-fits m i = listed 40 (subkey q0 q1 (evens m) (odds m)) 0 i (subkey-fits q0 q1 (evens m) (odds m))
+fits m i = table-fits (2 ^ 32) 40 (subkey q0 q1 (evens m) (odds m)) i (lit< tt) (subkey-fits q0 q1 (evens m) (odds m))
 
 -- four bytes of a list of bytes, from i on
 four : (l : List ℕ) (i : ℕ) → Bytes l → Bytes (at l i ∷ at l (i + 1) ∷ at l (i + 2) ∷ at l (i + 3) ∷ [])
@@ -59,16 +54,16 @@ listed16 : (l : List ℕ) → length l ≡ 16
     → l ≡ at l 0 ∷ at l 1 ∷ at l 2 ∷ at l 3 ∷ at l 4 ∷ at l 5 ∷ at l 6 ∷ at l 7 ∷ at l 8 ∷ at l 9 ∷ at l 10 ∷ at l 11 ∷ at l 12 ∷ at l 13 ∷ at l 14 ∷ at l 15 ∷ []
 listed16 l h = is-table 16 (at l) l h (λ k p. refl)
 
-pub bytes-block : (l : List ℕ) → Sized 16 l → bytesOf (blockOf l) ≡ l
-unfolding bytesOf blockOf
+pub bytes-block : (l : List ℕ) → Sized 16 l → blockBytes (blockOf l) ≡ l
+unfolding blockBytes blockOf
 bytes-block l h =
     ap₂ _++_ (bytes-number (four l 0 (h .bytes)))
     (ap₂ _++_ (bytes-number (four l 4 (h .bytes)))
     (ap₂ _++_ (bytes-number (four l 8 (h .bytes))) (bytes-number (four l 12 (h .bytes)))))
     ∙ sym (listed16 l (h .long))
 
-pub block-bytes : (x : Block) → Words x → blockOf (bytesOf x) ≡ x
-unfolding bytesOf blockOf bytesLow
+pub block-bytes : (x : Block) → Words x → blockOf (blockBytes x) ≡ x
+unfolding blockBytes blockOf bytesLow
 block-bytes x w =
     blocks
     (number-bytes 4 (x .a) ∙ mod-eq-of-lt (w .fa))
@@ -82,39 +77,39 @@ pub sixteen : (x : Block)
     ∷ byteOf 0 (x .b) ∷ byteOf 1 (x .b) ∷ byteOf 2 (x .b) ∷ byteOf 3 (x .b)
     ∷ byteOf 0 (x .c) ∷ byteOf 1 (x .c) ∷ byteOf 2 (x .c) ∷ byteOf 3 (x .c)
     ∷ byteOf 0 (x .d) ∷ byteOf 1 (x .d) ∷ byteOf 2 (x .d) ∷ byteOf 3 (x .d) ∷ []
-    ≡ bytesOf x
-unfolding bytesOf
+    ≡ blockBytes x
+unfolding blockBytes
 sixteen x =
     sym (ap₂ _++_ (four-low (x .a)) (ap₂ _++_ (four-low (x .b)) (ap₂ _++_ (four-low (x .c)) (four-low (x .d)))))
 
-pub bytes-of-sized : (x : Block) → Sized 16 (bytesOf x)
-unfolding bytesOf
-bytes-of-sized x =
+pub block-bytes-sized : (x : Block) → Sized 16 (blockBytes x)
+unfolding blockBytes
+block-bytes-sized x =
     sized-append 4 12 _ _ (bytes-sized 4 (x .a))
     (sized-append 4 8 _ _ (bytes-sized 4 (x .b)) (sized-append 4 4 _ _ (bytes-sized 4 (x .c)) (bytes-sized 4 (x .d))))
 
-pub encrypted-sized : (m b : List ℕ) → Sized 16 (encryptBlock m b)
+pub encrypt-block-sized : (m b : List ℕ) → Sized 16 (encryptBlock m b)
 unfolding encryptBlock
-encrypted-sized m b = bytes-of-sized (encryptWords m (blockOf b))
+encrypt-block-sized m b = block-bytes-sized (encryptWords m (blockOf b))
 
-pub decrypted-sized : (m b : List ℕ) → Sized 16 (decryptBlock m b)
+pub decrypt-block-sized : (m b : List ℕ) → Sized 16 (decryptBlock m b)
 unfolding decryptBlock
-decrypted-sized m b = bytes-of-sized (decryptWords m (blockOf b))
+decrypt-block-sized m b = block-bytes-sized (decryptWords m (blockOf b))
 
-pub decrypted-encrypted : (m b : List ℕ) → Sized 32 m → Sized 16 b → decryptBlock m (encryptBlock m b) ≡ b
+pub decrypt-encrypt-block : (m b : List ℕ) → Sized 16 b → decryptBlock m (encryptBlock m b) ≡ b
 unfolding encryptBlock decryptBlock encryptWords decryptWords
-decrypted-encrypted m b hm h =
+decrypt-encrypt-block m b h =
     let w = block-words b (h .bytes) in
     let k = at (subkeys q0 q1 m) in
-    ap (λ (x : Block). bytesOf (decryptWords m x)) (block-bytes (encryptWords m (blockOf b)) (encrypt-words (g q0 q1 m) k (fits m) (blockOf b) w))
-    ∙ ap bytesOf (decrypt-encrypt (g q0 q1 m) k (fits m) (blockOf b) w)
+    ap (λ (x : Block). blockBytes (decryptWords m x)) (block-bytes (encryptWords m (blockOf b)) (encrypt-words (g q0 q1 m) k (fits m) (blockOf b) w))
+    ∙ ap blockBytes (decrypt-encrypt (g q0 q1 m) k (fits m) (blockOf b) w)
     ∙ bytes-block b h
 
-pub encrypted-decrypted : (m b : List ℕ) → Sized 32 m → Sized 16 b → encryptBlock m (decryptBlock m b) ≡ b
+pub encrypt-decrypt-block : (m b : List ℕ) → Sized 16 b → encryptBlock m (decryptBlock m b) ≡ b
 unfolding encryptBlock decryptBlock encryptWords decryptWords
-encrypted-decrypted m b hm h =
+encrypt-decrypt-block m b h =
     let w = block-words b (h .bytes) in
     let k = at (subkeys q0 q1 m) in
-    ap (λ (x : Block). bytesOf (encryptWords m x)) (block-bytes (decryptWords m (blockOf b)) (decrypt-words (g q0 q1 m) k (fits m) (blockOf b) w))
-    ∙ ap bytesOf (encrypt-decrypt (g q0 q1 m) k (fits m) (blockOf b) w)
+    ap (λ (x : Block). blockBytes (encryptWords m x)) (block-bytes (decryptWords m (blockOf b)) (decrypt-words (g q0 q1 m) k (fits m) (blockOf b) w))
+    ∙ ap blockBytes (encrypt-decrypt (g q0 q1 m) k (fits m) (blockOf b) w)
     ∙ bytes-block b h

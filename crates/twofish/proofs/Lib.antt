@@ -1,4 +1,3 @@
-pub mod Listed
 pub mod ColumnSums
 pub mod Permutations
 pub mod Pairs

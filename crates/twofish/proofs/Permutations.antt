@@ -4,10 +4,10 @@ use mathlib.Core.List.{List}
 use Prim.Native.Nat.{ℕ, _<_}
 use lib.Dec.{T, eqb}
 use lib.ListN.{length}
-use Rattle.twofish.specs.Table.{at, table}
+use Rattle.words.specs.Table.{at, table}
 use Rattle.twofish.specs.Q.{q0, q1, rule0, rule1, table0, table1}
 use Rattle.words.proofs.Every.{all, agree}
-use Rattle.twofish.proofs.Listed.{at-table, is-table}
+use Rattle.words.proofs.Tables.{at-table, is-table}
 
 -- a list of 256 bytes that passes the test is the full table
 pub follows : (rule : ℕ → ℕ) (l : List ℕ) → length l ≡ 256 → T (all (λ k. eqb (at l k) (rule k)) 256) → l ≡ table 256 rule

@@ -7,7 +7,7 @@ use lib.Dec.{eqb}
 use Rattle.words.specs.Numbers.{numberLow, byteOf}
 use Rattle.words.specs.Rotation.{rotateLeft}
 use Rattle.twofish.specs.Field.{_⊕_, product}
-use Rattle.twofish.specs.Table.{at, table}
+use Rattle.words.specs.Table.{at, table}
 
 -- the words of the key with an even number, and those with an odd number: Me and Mo
 unfoldable pub evens : List ℕ → List ℕ

@@ -3,7 +3,7 @@ use Prim.Native.Nat.{ℕ, _+_, _*_, _/_, _%_}
 use mathlib.Core.List.{List, [], _∷_}
 use Rattle.words.specs.Rotation.{rotateRight}
 use Rattle.twofish.specs.Field.{_⊕_}
-use Rattle.twofish.specs.Table.{at, table}
+use Rattle.words.specs.Table.{at, table}
 
 -- the permutation of the tables t0 to t3: the half bytes a and b of x, mixed and looked up twice
 abbrev pub rule : List ℕ → List ℕ → List ℕ → List ℕ → ℕ → ℕ

@@ -2,7 +2,7 @@
 use Prim.Native.Nat.{ℕ, _+_}
 use mathlib.Core.List.{List, [], _∷_, _++_}
 use Rattle.words.specs.Numbers.{numberLow, bytesLow}
-use Rattle.twofish.specs.Table.{at}
+use Rattle.words.specs.Table.{at}
 use Rattle.twofish.specs.Q.{q0, q1}
 use Rattle.twofish.specs.Key.{subkeys, g}
 use Rattle.twofish.specs.Cipher.{encrypt, decrypt}
@@ -16,8 +16,8 @@ wordAt l i = numberLow (at l i ∷ at l (i + 1) ∷ at l (i + 2) ∷ at l (i + 3
 unfoldable pub blockOf : List ℕ → Block
 blockOf l = record { a = wordAt l 0; b = wordAt l 4; c = wordAt l 8; d = wordAt l 12 }
 
-unfoldable pub bytesOf : Block → List ℕ
-bytesOf x = bytesLow 4 (x .a) ++ (bytesLow 4 (x .b) ++ (bytesLow 4 (x .c) ++ bytesLow 4 (x .d)))
+unfoldable pub blockBytes : Block → List ℕ
+blockBytes x = bytesLow 4 (x .a) ++ (bytesLow 4 (x .b) ++ (bytesLow 4 (x .c) ++ bytesLow 4 (x .d)))
 
 -- four words, under the key m
 unfoldable pub encryptWords : List ℕ → Block → Block
@@ -28,7 +28,7 @@ decryptWords m = decrypt (g q0 q1 m) (at (subkeys q0 q1 m))
 
 -- 16 bytes, under the key m
 unfoldable pub encryptBlock : List ℕ → List ℕ → List ℕ
-encryptBlock m b = bytesOf (encryptWords m (blockOf b))
+encryptBlock m b = blockBytes (encryptWords m (blockOf b))
 
 unfoldable pub decryptBlock : List ℕ → List ℕ → List ℕ
-decryptBlock m b = bytesOf (decryptWords m (blockOf b))
+decryptBlock m b = blockBytes (decryptWords m (blockOf b))

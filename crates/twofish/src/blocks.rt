@@ -10,8 +10,8 @@ use words::numbers::byte;
 use words::numbers::low;
 ghost use mathlib.Core.Path.{_≡_};
 ghost use Prim.Native.Nat.{_<_};
-ghost use Rattle.twofish.specs.Table.{at as atOf};
-ghost use Rattle.twofish.specs.Twofish.{wordAt, blockOf, bytesOf, encryptBlock, decryptBlock};
+ghost use Rattle.words.specs.Table.{at as atOf};
+ghost use Rattle.twofish.specs.Twofish.{wordAt, blockOf, blockBytes, encryptBlock, decryptBlock};
 
 // Byte i, 0 past the end.
 fn at(b: &[u8], i: usize) -> u8
@@ -40,7 +40,7 @@ pub fn load(b: &[u8]) -> Block
 }
 
 pub fn bytes(x: Block) -> [u8; 16]
-    ensures { λ r. ⌜ r ≡ bytesOf x ⌝ }
+    ensures { λ r. ⌜ r ≡ blockBytes x ⌝ }
 {
     [
         byte(x.a, 0),

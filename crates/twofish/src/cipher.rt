@@ -7,20 +7,20 @@ use words::rotation::left;
 use words::rotation::right;
 ghost use mathlib.Core.Path.{_≡_};
 ghost use Prim.Native.Nat.{_<_};
-ghost use Rattle.twofish.specs.Table.{at};
-ghost use Rattle.twofish.specs.Key.{h as hOf};
-ghost use Rattle.twofish.specs.Cipher.{whiten as whitenOf, swap as swapOf, round as roundOf, unround as unroundOf, encrypt as encryptOf, decrypt as decryptOf};
+ghost use Rattle.words.specs.Table.{at};
+ghost use Rattle.twofish.specs.Cipher.{whiten as whitenOf, swap as swapOf, round as roundOf, unround as unroundOf};
+ghost use Rattle.twofish.specs.Tabled.{tabledG, tabledEncrypt, tabledDecrypt};
 
 // g is h with the vector S.
 fn g(t0: &[u8; 256], t1: &[u8; 256], s: &[u8; 16], x: u32) -> u32
-    ensures { λ r. ⌜ r ≡ hOf (at (now (t0 .entry))) (at (now (t1 .entry))) (now (s .entry)) x ⌝ }
+    ensures { λ r. ⌜ r ≡ tabledG (now (t0 .entry)) (now (t1 .entry)) (now (s .entry)) x ⌝ }
 {
     h(t0, t1, s, x)
 }
 
 fn round(t0: &[u8; 256], t1: &[u8; 256], s: &[u8; 16], k: &[u32; 40], i: usize, x: Block) -> Block
     requires { ⌜ i < 16 ⌝ }
-    ensures { λ r. ⌜ r ≡ roundOf (hOf (at (now (t0 .entry))) (at (now (t1 .entry))) (now (s .entry))) (at (now (k .entry))) i x ⌝ }
+    ensures { λ r. ⌜ r ≡ roundOf (tabledG (now (t0 .entry)) (now (t1 .entry)) (now (s .entry))) (at (now (k .entry))) i x ⌝ }
 {
     let y = g(t0, t1, s, x.a);
     let z = g(t0, t1, s, left(x.b, 8));
@@ -34,7 +34,7 @@ fn round(t0: &[u8; 256], t1: &[u8; 256], s: &[u8; 16], k: &[u32; 40], i: usize, 
 
 fn unround(t0: &[u8; 256], t1: &[u8; 256], s: &[u8; 16], k: &[u32; 40], i: usize, x: Block) -> Block
     requires { ⌜ i < 16 ⌝ }
-    ensures { λ r. ⌜ r ≡ unroundOf (hOf (at (now (t0 .entry))) (at (now (t1 .entry))) (now (s .entry))) (at (now (k .entry))) i x ⌝ }
+    ensures { λ r. ⌜ r ≡ unroundOf (tabledG (now (t0 .entry)) (now (t1 .entry)) (now (s .entry))) (at (now (k .entry))) i x ⌝ }
 {
     let y = g(t0, t1, s, x.c);
     let z = g(t0, t1, s, left(x.d, 8));
@@ -71,7 +71,7 @@ fn swap(x: Block) -> Block
 }
 
 pub fn encrypt(t0: &[u8; 256], t1: &[u8; 256], s: &[u8; 16], k: &[u32; 40], x: Block) -> Block
-    ensures { λ r. ⌜ r ≡ encryptOf (hOf (at (now (t0 .entry))) (at (now (t1 .entry))) (now (s .entry))) (at (now (k .entry))) x ⌝ }
+    ensures { λ r. ⌜ r ≡ tabledEncrypt (now (t0 .entry)) (now (t1 .entry)) (now (s .entry)) (now (k .entry)) x ⌝ }
 {
     let mut y = whiten(k, 0, x);
     let mut i: usize = 0;
@@ -83,7 +83,7 @@ pub fn encrypt(t0: &[u8; 256], t1: &[u8; 256], s: &[u8; 16], k: &[u32; 40], x: B
 }
 
 pub fn decrypt(t0: &[u8; 256], t1: &[u8; 256], s: &[u8; 16], k: &[u32; 40], x: Block) -> Block
-    ensures { λ r. ⌜ r ≡ decryptOf (hOf (at (now (t0 .entry))) (at (now (t1 .entry))) (now (s .entry))) (at (now (k .entry))) x ⌝ }
+    ensures { λ r. ⌜ r ≡ tabledDecrypt (now (t0 .entry)) (now (t1 .entry)) (now (s .entry)) (now (k .entry)) x ⌝ }
 {
     let mut y = swap(whiten(k, 4, x));
     let mut i: usize = 16;

@@ -10,7 +10,7 @@ ghost use mathlib.Core.Path.{_≡_};
 ghost use mathlib.Core.List.{[], _∷_};
 ghost use Prim.Native.Nat.{_+_, _*_, _/_, _%_, _^_, _<_};
 ghost use Rattle.twofish.specs.Field.{dot, product};
-ghost use Rattle.twofish.specs.Table.{at, table};
+ghost use Rattle.words.specs.Table.{at, table};
 ghost use Rattle.twofish.specs.Key.{y0 as y0Of, y1 as y1Of, y2 as y2Of, y3 as y3Of, h as hOf, RS, eight, boxKey, wordA, wordB, subkeys as subkeysOf};
 
 fn sub(t: &[u8; 256], x: u8) -> u8

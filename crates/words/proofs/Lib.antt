@@ -6,3 +6,4 @@ pub mod SliceLaws
 pub mod Every
 pub mod Places
 pub mod HexLaws
+pub mod Tables

@@ -3,3 +3,4 @@ pub mod Rotation
 pub mod Xor
 pub mod Slices
 pub mod Hex
+pub mod Table

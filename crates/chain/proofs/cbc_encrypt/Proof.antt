@@ -1,4 +1,4 @@
--- `chain::cbc_encrypt` meets its contract: the text is copied, and `encipher` in the mode CBC goes over the copy.
+-- `chain::cbc_encrypt` meets its contract: the text is copied, and `memory::encrypt` in the mode CBC goes over the copy.
 use Rattle.chain.specs.Blocks.{modeE}
 use mathlib.Core.Path.{sym, ap}
 use lib.ListN.{length}
@@ -19,8 +19,8 @@ returns-2 c =
     let a = c .before .before .before .before .args in
     too-short (cbcE twofishCipher (a .key .now)) (a .iv .now) (a .from .now) (a .to .now) (c .if2 .taken)
 
-slice-aggregate-encipher : tie.Need-slice-aggregate-encipher
-slice-aggregate-encipher c =
+slice-aggregate-encrypt : tie.Need-slice-aggregate-encrypt
+slice-aggregate-encrypt c =
     let a = c .before .before .before .before .before .before .before .before .before .args in
     sym (ap length (copy-front (a .from .now) (a .to .now) (c .before .before .before .before .before .if2 .left) (c .before .before .before .copy .ensures)))
 
@@ -30,7 +30,7 @@ returns-3 c =
     let tested = c .before .before .before .before .before .before .before .before in
     let a = tested .before .before .before .before .args in
     all-into (cbcE twofishCipher (a .key .now)) (a .iv .now) (a .from .now) (a .to .now) (tested .before .if1 .left) (tested .if2 .left)
-    (c .before .before .before .before .before .before .copy .ensures) (c .before .before .encipher .ensures)
+    (c .before .before .before .before .before .before .copy .ensures) (c .before .before .encrypt .ensures)
 
 pub cbc-encrypt-spec : {M : Type 1} → statement M
 cbc-encrypt-spec =
@@ -40,7 +40,7 @@ cbc-encrypt-spec =
     returns-2
     (λ c κs. search needs)
     (λ c. search needs)
-    slice-aggregate-encipher
+    slice-aggregate-encrypt
     (λ c κs. search needs)
     (λ c. search needs)
     returns-3)

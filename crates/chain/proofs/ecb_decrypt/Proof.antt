@@ -1,4 +1,4 @@
--- `chain::ecb_decrypt` meets its contract: `decipher` in the mode ECB.
+-- `chain::ecb_decrypt` meets its contract: `memory::decrypt` in the mode ECB.
 use Rattle.chain.specs.Blocks.{modeD}
 use borrow.Author.Needs.{needs}
 use Rattle.chain.proofs.ecb_decrypt.Statement.{statement}
@@ -6,7 +6,7 @@ use Rattle.chain.proofs.ecb_decrypt.Tie as tie
 
 returns : tie.Need-returns
 unfolding modeD
-returns c = c .before .before .decipher .ensures
+returns c = c .before .before .decrypt .ensures
 
 pub ecb-decrypt-spec : {M : Type 1} → statement M
 ecb-decrypt-spec = tie.close (tie.spec (λ c κs. search needs) (λ c. search needs) returns)

@@ -1,4 +1,4 @@
--- `chain::ecb_encrypt` meets its contract: `encipher` in the mode ECB.
+-- `chain::ecb_encrypt` meets its contract: `memory::encrypt` in the mode ECB.
 use Rattle.chain.specs.Blocks.{modeE}
 use borrow.Author.Needs.{needs}
 use Rattle.chain.proofs.ecb_encrypt.Statement.{statement}
@@ -6,7 +6,7 @@ use Rattle.chain.proofs.ecb_encrypt.Tie as tie
 
 returns : tie.Need-returns
 unfolding modeE
-returns c = c .before .before .encipher .ensures
+returns c = c .before .before .encrypt .ensures
 
 pub ecb-encrypt-spec : {M : Type 1} → statement M
 ecb-encrypt-spec = tie.close (tie.spec (λ c κs. search needs) (λ c. search needs) returns)

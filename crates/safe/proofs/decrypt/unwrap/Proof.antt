@@ -5,7 +5,7 @@ use denote.Ref.{now}
 use lib.Seq.{length-take-le}
 use Rattle.words.specs.Slices.{zeros}
 use Rattle.chain.specs.Modes.{ecbD}
-use Rattle.chain.specs.Memory.{opened, Handed}
+use Rattle.chain.specs.Memory.{decryptedInPlace, Handed}
 use Rattle.chain.specs.Twofish.{twofishCipher}
 use Rattle.words.proofs.SliceLaws.{copied-whole}
 use Rattle.safe.proofs.Opened.{unwrapped}
@@ -20,7 +20,7 @@ returns : tie.Need-returns
 returns c =
     let s = c .before .before .before .before .before .before .before .before .before .before .before .before in
     let e = c .before .before .before .before .before .before .before .before .before .copy .ensures ∙ copied-whole 64 (now (s .args .keys)) (s .pre) in
-    let h : Handed (opened (ecbD twofishCipher (now (s .args .key))) (zeros 16) (now (s .args .keys)) 0) _ _ = rw e at (c .before .before .before .before .before .before .ecb-decrypt .ensures) in
+    let h : Handed (decryptedInPlace (ecbD twofishCipher (now (s .args .key))) (zeros 16) (now (s .args .keys)) 0) _ _ = rw e at (c .before .before .before .before .before .before .ecb-decrypt .ensures) in
     unwrapped (now (s .args .key)) (now (s .args .keys)) _ (s .pre) h (c .before .before .before .first-32 .ensures) (c .first-322 .ensures) (c .before .before .before .before .before .w4 .given)
 
 pub unwrap-spec : {M : Type 1} → statement M

@@ -1,8 +1,8 @@
 -- `twofish::cipher::decrypt` meets its contract: what is left of the definition's 16 rounds back, with i still to go, ends in the same block.
 use Rattle.twofish.specs.Cipher.{unround, unrounds, decrypt}
 use Rattle.twofish.specs.declared.Block.{Block}
-use Rattle.twofish.specs.Table.{at}
-use Rattle.twofish.specs.Key.{h}
+use Rattle.words.specs.Table.{at}
+use Rattle.twofish.specs.Tabled.{tabledG, tabledDecrypt}
 use mathlib.Core.Path.{_≡_, ap}
 use Prim.Native.Nat.{ℕ, suc, _-_, _≤_, _<_}
 use native.Mathlib.Omega.{arith}
@@ -17,7 +17,7 @@ one-less g k i s h =
     ap (λ (n : ℕ). unrounds g k n s) p
 
 abbrev Inv-loop : tie.InvT-loop
-Inv-loop t0 t1 s k y₀ i₀ y i = (i ≤ 16) × (unrounds (h (at t0) (at t1) s) (at k) i y ≡ unrounds (h (at t0) (at t1) s) (at k) 16 y₀)
+Inv-loop t0 t1 s k y₀ i₀ y i = (i ≤ 16) × (unrounds (tabledG t0 t1 s) (at k) i y ≡ unrounds (tabledG t0 t1 s) (at k) 16 y₀)
 
 abbrev μ-loop : tie.MeasureT-loop
 μ-loop t0 t1 s k y₀ i₀ y i = i
@@ -26,15 +26,15 @@ loop-again : tie.Need-loop-again Inv-loop μ-loop
 loop-again c =
     let a = c .before .before .before .before .before .args in
     let l = c .before .before .loop in
-    let g = h (at (a .t0 .now)) (at (a .t1 .now)) (a .s .now) in
+    let g = tabledG (a .t0 .now) (a .t1 .now) (a .s .now) in
     (search needs, cc (one-less g (at (a .k .now)) (l .i) (l .y) (c .before .loop-test .taken)))
 
 returns : tie.Need-returns Inv-loop μ-loop
-unfolding decrypt unrounds
+unfolding tabledDecrypt decrypt unrounds
 returns c =
     let a = c .before .before .before .before .before .args in
     let l = c .before .before .loop in
-    let g = h (at (a .t0 .now)) (at (a .t1 .now)) (a .s .now) in
+    let g = tabledG (a .t0 .now) (a .t1 .now) (a .s .now) in
     let e : 0 ≡ l .i = omega arith in
     cc (ap (λ (n : ℕ). unrounds g (at (a .k .now)) n (l .y)) e)
 

@@ -1,6 +1,6 @@
 -- `twofish::key::every_other` meets its contract: after k turns the first k places hold their bytes of the key.
-use Rattle.twofish.specs.Table.{at}
-use Rattle.twofish.proofs.Listed.{more, is-table}
+use Rattle.words.specs.Table.{at}
+use Rattle.words.proofs.Tables.{table-more, is-table}
 use mathlib.Core.Path.{_≡_, refl}
 use Prim.Native.Nat.{ℕ, _+_, _-_, _*_, _/_, _%_, _≤_, _<_}
 use native.Mathlib.Nat.{not-suc-le-zero}
@@ -27,7 +27,7 @@ loop-again c =
     let f : ℕ → ℕ = λ k. at m (8 * (k / 4) + k % 4 + a .from) in (
       omega arith,
       simp length-set (o .inv .1),
-      more f (o .l) (o .k) (f (o .k)) (omega arith) refl (o .inv .2),
+      table-more f (o .l) (o .k) (f (o .k)) (omega arith) refl (o .inv .2),
     )
 
 returns : tie.Need-returns Inv-loop μ-loop

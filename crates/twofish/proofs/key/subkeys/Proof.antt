@@ -1,7 +1,7 @@
 -- `twofish::key::subkeys` meets its contract: after i turns the first 2 i places hold the definition's subkeys.
-use Rattle.twofish.specs.Table.{at, table}
+use Rattle.words.specs.Table.{at, table}
 use Rattle.twofish.specs.Key.{evens, odds, subkey, subkeys}
-use Rattle.twofish.proofs.Listed.{more, is-table}
+use Rattle.words.proofs.Tables.{table-more, is-table}
 use Rattle.twofish.proofs.Pairs.{even, odd}
 use mathlib.Core.Path.{_≡_, refl, ap₂, _∙_}
 use mathlib.Core.List.{List}
@@ -39,7 +39,7 @@ loop-again c =
     let h′ : 2 * l .i + 1 < length (set (l .k) (2 * l .i) v) = simp length-set (omega arith) in (
       omega arith,
       simp length-set (l .inv .1),
-      λ j z. more f (set (l .k) (2 * l .i) v) (2 * l .i + 1) w h′ y (more f (l .k) (2 * l .i) v h x (l .inv .2)) j (omega arith),
+      λ j z. table-more f (set (l .k) (2 * l .i) v) (2 * l .i + 1) w h′ y (table-more f (l .k) (2 * l .i) v h x (l .inv .2)) j (omega arith),
     )
 
 returns : tie.Need-returns Inv-loop μ-loop

@@ -1,19 +1,19 @@
--- `chain::block::sealed` meets its contract: mode by mode, as its definition goes.
-use Rattle.chain.specs.Blocks.{sealedBlock}
+-- `chain::block::encrypt_words` meets its contract: mode by mode, as its definition goes.
+use Rattle.chain.specs.Blocks.{wordsE}
 use borrow.Author.Needs.{needs}
-use Rattle.chain.proofs.block.sealed.Statement.{statement}
-use Rattle.chain.proofs.block.sealed.Tie as tie
+use Rattle.chain.proofs.block.encrypt_words.Statement.{statement}
+use Rattle.chain.proofs.block.encrypt_words.Tie as tie
 
 returns : tie.Need-returns
-unfolding sealedBlock
+unfolding wordsE
 returns c = rw (c .before .enum-told .given .1) (c .encrypt .ensures)
 
 returns-2 : tie.Need-returns-2
-unfolding sealedBlock
+unfolding wordsE
 returns-2 c = rw (c .before .before .enum-told2 .given .1) (cc)
 
-pub sealed-spec : {M : Type 1} → statement M
-sealed-spec =
+pub encrypt-words-spec : {M : Type 1} → statement M
+encrypt-words-spec =
     tie.close
     (tie.spec
     (λ c. search needs)

@@ -7,7 +7,7 @@ use native.Mathlib.Nat.{add-zero, add-suc, suc-add, zero-add, eq-or-lt-of-le, le
 use native.Mathlib.Numerals.{add-one}
 use lib.ListN.{length, set}
 use lib.Seq.{ext-getD, getD-set-same, getD-set-other}
-use Rattle.twofish.specs.Table.{at, from, table}
+use Rattle.words.specs.Table.{at, from, table}
 
 length-from : (n : ℕ) (f : ℕ → ℕ) (i : ℕ) → length (from n f i) ≡ n
 length-from zero f i = refl
@@ -21,6 +21,15 @@ at-from (suc n) f i (suc k) h = at-from n f (suc i) k (le-of-suc-le-suc h) ∙ a
 pub at-table : (n : ℕ) (f : ℕ → ℕ) (k : ℕ) → k < n → at (table n f) k ≡ f k
 at-table n f k h = at-from n f 0 k h ∙ ap f (zero-add k)
 
+-- what bounds f bounds the table of f at every place, past its end too
+from-fits : (m n : ℕ) (f : ℕ → ℕ) (i k : ℕ) → 0 < m → ((j : ℕ) → f j < m) → at (from n f i) k < m
+from-fits m zero f i k p h = p
+from-fits m (suc n) f i zero p h = h i
+from-fits m (suc n) f i (suc k) p h = from-fits m n f (suc i) k p h
+
+pub table-fits : (m n : ℕ) (f : ℕ → ℕ) (k : ℕ) → 0 < m → ((j : ℕ) → f j < m) → at (table n f) k < m
+table-fits m n f k = from-fits m n f 0 k
+
 -- a list with f at each of its n places is the table of f
 pub is-table : (n : ℕ) (f : ℕ → ℕ) (l : List ℕ) → length l ≡ n → ((k : ℕ) → k < n → at l k ≡ f k) → l ≡ table n f
 is-table n f l e h =
@@ -28,9 +37,9 @@ is-table n f l e h =
     (λ k p. let q : k < n = subst (λ (m : ℕ). k < m) e p in h k q ∙ sym (at-table n f k q))
 
 -- one place more
-pub more : (f : ℕ → ℕ) (l : List ℕ) (i v : ℕ) → i < length l → v ≡ f i → ((k : ℕ) → k < i → at l k ≡ f k)
+pub table-more : (f : ℕ → ℕ) (l : List ℕ) (i v : ℕ) → i < length l → v ≡ f i → ((k : ℕ) → k < i → at l k ≡ f k)
     → (k : ℕ) → k < i + 1 → at (set l i v) k ≡ f k
-more f l i v hi e h k p =
+table-more f l i v hi e h k p =
     ⊎-elim
     (λ q. subst (λ (m : ℕ). at (set l i v) m ≡ f m) (sym q) (getD-set-same l i v 0 hi ∙ e))
     (λ q. getD-set-other l i k v 0 (λ z. lt-irrefl i (subst (λ (m : ℕ). m < i) z q)) ∙ h k q)

@@ -1,21 +1,21 @@
--- Decryption by steps, each of which deciphers one block and counts it.
+-- Decryption by steps, each of which decrypts one block and counts it.
 use Prim.Native.Nat.{ℕ, zero, suc, _+_}
 use mathlib.Core.List.{List, [], _++_}
 use lib.ListN.{take, drop}
 
--- the cipher text left, the cipher block before it, the text so far, and the number of blocks deciphered
-pub record Opening : Type 0 where
+-- the cipher text left, the cipher block before it, the text so far, and the number of blocks decrypted
+pub record Decryption : Type 0 where
   pub rest : List ℕ
   pub prev : List ℕ
   pub done : List ℕ
   pub count : ℕ
 
 -- before the first block; the count goes on from that of an earlier stage
-unfoldable pub opening : List ℕ → List ℕ → ℕ → Opening
-opening prev l count = record { rest = l; prev = prev; done = []; count = count }
+unfoldable pub decryption : List ℕ → List ℕ → ℕ → Decryption
+decryption prev l count = record { rest = l; prev = prev; done = []; count = count }
 
--- one block more is deciphered, and counted
-unfoldable pub step : (List ℕ → List ℕ → List ℕ) → Opening → Opening
+-- one block more is decrypted, and counted
+unfoldable pub step : (List ℕ → List ℕ → List ℕ) → Decryption → Decryption
 step d s =
     record {
       rest = drop 16 (s .rest);

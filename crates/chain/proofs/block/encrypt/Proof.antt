@@ -1,17 +1,17 @@
--- `chain::block::seal` meets its contract: the block is read, and the bytes of its cipher block are copied over it.
+-- `chain::block::encrypt` meets its contract: the block is read, and the bytes of its cipher block are copied over it.
 use Rattle.words.specs.Slices.{copied}
 use mathlib.Core.Path.{ap, _∙_}
 use borrow.Author.Needs.{needs}
-use Rattle.chain.proofs.block.seal.Statement.{statement}
-use Rattle.chain.proofs.block.seal.Tie as tie
+use Rattle.chain.proofs.block.encrypt.Statement.{statement}
+use Rattle.chain.proofs.block.encrypt.Tie as tie
 
 returns : tie.Need-returns
 returns c =
     let l = c .before .before .before .before .before .before .before .before .before .before .args .b .now in
-    (cc, c .before .before .copy .ensures ∙ ap (copied l) (c .before .before .before .before .before .bytes .ensures))
+    record { block = cc; memory = c .before .before .copy .ensures ∙ ap (copied l) (c .before .before .before .before .before .bytes .ensures) }
 
-pub seal-spec : {M : Type 1} → statement M
-seal-spec =
+pub encrypt-spec : {M : Type 1} → statement M
+encrypt-spec =
     tie.close
     (tie.spec
     (λ c κs. search needs)

@@ -1,0 +1,12 @@
+-- `twofish::cipher::g` meets its contract: it is h with the vector S.
+use Rattle.twofish.specs.Tabled.{tabledG}
+use borrow.Author.Needs.{needs}
+use Rattle.twofish.proofs.cipher.g.Statement.{statement}
+use Rattle.twofish.proofs.cipher.g.Tie as tie
+
+returns : tie.Need-returns
+unfolding tabledG
+returns c = c .h .ensures
+
+pub g-spec : {M : Type 1} → statement M
+g-spec = tie.close (tie.spec (λ c κs. search needs) returns)
