@@ -6,6 +6,8 @@ mod Sums
 mod OnceTypes
 mod Verdict
 pub mod Along
+pub mod Sectioned
+mod Keeps
 mod FirstField
 mod Stands
 mod Hunt

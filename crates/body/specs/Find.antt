@@ -1,37 +1,25 @@
 -- Find: the first record with the UUID, by its number from 0 and the place of its first field; none; or 9.
 use Prim.Native.Nat.{ℕ, _+_}
-use mathlib.Core.Bool.{Bool, true, false, cond, _&&_, _||_}
+use mathlib.Core.Bool.{Bool, cond, _&&_}
 use mathlib.Core.List.{List, [], _∷_}
 use lib.Dec.{eqb}
-use lib.ListN.{length}
+use lib.ListN.{length, take, drop}
+use Rattle.words.specs.Numbers.{numberLow}
 use Rattle.fields.specs.Stored.{Stored}
-use Rattle.fields.specs.Value.{valueOf}
-use Rattle.fields.specs.declared.value.Value.{Value}
-use Rattle.fields.specs.declared.value.Value.the-variants as Value
 use Rattle.body.specs.Division.{joined}
-use Rattle.body.specs.Sections.{runs}
+use Rattle.body.specs.Sections.{runs, firstData}
 use Rattle.body.specs.Decision.{fieldsOf, wellFormed, headerIn, recordsIn}
 use Rattle.body.specs.declared.Sought.{Sought}
 use Rattle.body.specs.declared.Sought.the-variants.{At, Nowhere, NotWellFormed}
 use Rattle.body.specs.declared.Found.{Found}
 
--- the value is the UUID of halves a and b
-abbrev pub isUuid : Value → ℕ → ℕ → Bool
-isUuid Value.Empty a b = false
-isUuid Value.End a b = false
-isUuid (Value.Uuid x y) a b = eqb x a && eqb y b
-isUuid (Value.Time t) a b = false
-isUuid (Value.Number n) a b = false
-isUuid (Value.Flag t) a b = false
-isUuid Value.Text a b = false
-isUuid Value.BadText a b = false
-isUuid Value.Misshapen a b = false
-isUuid Value.Opaque a b = false
+-- the data are the 16 bytes of the UUID of halves a and b: bytes 0 to 7 and bytes 8 to 15
+unfoldable pub isUuid : List ℕ → ℕ → ℕ → Bool
+isUuid d a b = eqb (length d) 16 && (eqb (numberLow (take 8 d)) a && eqb (numberLow (take 8 (drop 8 d))) b)
 
--- a record has the UUID when one of its fields has it as its value
+-- a record has the UUID when its first field of type 01 has these 16 bytes
 abbrev pub has : ℕ → ℕ → List Stored → Bool
-has a b [] = false
-has a b (f ∷ fs) = isUuid (valueOf true (f .kind) (f .content)) a b || has a b fs
+has a b r = isUuid (firstData 0x01 r) a b
 
 -- among records of which the first is number n and starts at place p; each takes its fields' bytes and those of its END
 unfoldable pub firstWith : ℕ → ℕ → ℕ → ℕ → List (List Stored) → Sought
