@@ -12,5 +12,6 @@ mod FirstField
 mod Stands
 mod Hunt
 pub mod Answers
+pub mod FindCall
 pub mod Kept
 pub mod Cases

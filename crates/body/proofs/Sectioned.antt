@@ -12,7 +12,7 @@ use lib.ListN.{length, take, drop, length-append}
 use lib.Seq.{take-at}
 use borrow.Author.Tests.{eqb-true, ltb-true, ltb-false}
 use Rattle.fields.specs.Stored.{Stored, bytesOf, roomOf}
-use Rattle.fields.specs.Walk.{walkOf, lenAt, endWithData}
+use Rattle.fields.specs.Walk.{walkOf, lenAt, endWithData, fieldAt, after}
 use Rattle.fields.specs.declared.Cursor.{Cursor}
 use Rattle.fields.specs.declared.Field.{Field}
 use Rattle.fields.specs.declared.Walked.{Walked}
@@ -35,6 +35,7 @@ inside p = record { place = p; «in_record» = true }
 
 -- The walk takes f at p, and then fs.
 pub record Next (s : List ℕ) (p : ℕ) (f : Stored) (fs : List Stored) : Type 0 where
+  pub walks : walkOf s (inside p) ≡ Took (fieldAt s (inside p)) (after s (inside p))
   pub is : f ≡ storedAt s p
   pub long : length (f .content) ≡ lenAt s p
   pub blocks : length (bytesOf f) ≡ roomOf (length (f .content))
@@ -56,7 +57,9 @@ taken-next s p f fs e = by (walkOf s (inside p)) refl
         let n : length (f .content) ≡ lenAt s p = ap (λ (x : Stored). length (x .content)) i ∙ l in
         let q : d .place ≡ p + roomOf (length (f .content)) = next-place s (inside p) g d w ∙ ap (λ (m : ℕ). p + roomOf m) (sym n) in
         let r : takenFrom s (d .place) ≡ fs = cc in
+        let t = taken s (inside p) g d w in
         record {
+          walks = w ∙ rw (t .field, t .next);
           is = i;
           long = n;
           blocks = ap (λ (x : Stored). length (bytesOf x)) i ∙ stored-long s p (taken-fits s (inside p) g d w) ∙ ap roomOf (sym n);

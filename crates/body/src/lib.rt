@@ -7,6 +7,7 @@ mod tally;
 
 ghost use mathlib.Core.Path.{_≡_};
 ghost use mathlib.Core.Bool.{true};
+ghost use Rattle.words.specs.Numbers.{Bytes};
 ghost use Rattle.body.specs.Sections.{runs};
 ghost use Rattle.body.specs.Decision.{fieldsOf, versionFirst, wellFormed, judgedOf};
 ghost use Rattle.body.specs.Find.{isUuid, soughtIn, findOf};
@@ -128,7 +129,7 @@ fn seek(body: &[u8], low: u64, high: u64) -> Sought
 
 // The first record with the UUID of these halves.
 pub fn find(body: &[u8], low: u64, high: u64) -> Found
-    ensures { λ r. ⌜ r ≡ findOf (now (body .entry)) low high ⌝ }
+    ensures { λ r. ⌜ (r ≡ findOf (now (body .entry)) low high) × Bytes (now (body .entry)) ⌝ }
 {
     if well_formed(body) {
         let sought = seek(body, low, high);
