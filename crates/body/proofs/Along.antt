@@ -1,19 +1,19 @@
 -- The walk and the fields of a body go together, step by step: what the walk takes is the next of the fields, and where it takes none they end or do not reach the end.
--- These are the laws for a loop over the walk.
+-- These are the laws for a loop over the walk: what it takes, where it takes none, and the end.
 use Prim.Native.Nat.{ℕ, _+_, _%_, _<_, _≤_}
 use mathlib.Core.Path.{_≡_, refl, sym, ap, _∙_}
-use mathlib.Core.Bool.{Bool, true, false, not, false≢true, true≢false}
+use mathlib.Core.Bool.{Bool, true, false, cond, not, false≢true}
 use mathlib.Core.Logic.{_⊎_, inl, inr, ⊎-elim}
-use mathlib.Core.List.{List, [], _∷_, _++_}
+use mathlib.Core.List.{List, [], _∷_}
 use native.Mathlib.Nat.{add-zero}
 use native.Mathlib.Omega.{arith}
 use lib.Dec.{leb, eqb}
-use lib.ListN.{length, take, drop, length-append}
+use lib.ListN.{length, length-append}
 use types.Run.{OneOf}
 use denote.Enum.Declared.{tagOf}
-use borrow.Author.Tests.{le-leb, leb-true, ne-eqb}
+use borrow.Author.Tests.{le-leb, leb-true, eq-eqb, eqb-true, ne-eqb}
 use Rattle.fields.specs.Stored.{Stored, bytesOf, roomOf}
-use Rattle.fields.specs.Walk.{walkOf, start, lenAt, kindAt, endWithData, fieldAt, after}
+use Rattle.fields.specs.Walk.{walkOf, lenAt, kindAt, endWithData, fieldAt, after}
 use Rattle.fields.specs.declared.Cursor.{Cursor}
 use Rattle.fields.specs.declared.Field.{Field}
 use Rattle.fields.specs.declared.Walked.{Walked}
@@ -21,17 +21,16 @@ use Rattle.fields.specs.declared.Walked.the-variants.{Took}
 use Rattle.fields.proofs.Walked as walked
 use Rattle.fields.proofs.Outcomes.{taken, took, forward}
 use Rattle.body.specs.Division.{joined}
-use Rattle.body.specs.Sections.{covered}
-use Rattle.body.specs.Decision.{storedAt, fits, fieldsFrom, fieldsOf, exactFrom, endsEmpty, wellFormed}
+use Rattle.body.specs.Decision.{storedAt, fits, fieldsFrom, walkable, takenFrom, exactFrom, endsEmpty}
 use Rattle.body.proofs.Division.{from-fits, from-none, stored-long, data-long}
 use Rattle.body.proofs.Tests.{both}
 
 -- the walk takes a field
 module _ (s : List ℕ) (c : Cursor) (f : Field) (d : Cursor) (e : walkOf s c ≡ Took f d) where
-  taken-fits : fits s (c .place) ≡ true
+  pub taken-fits : fits s (c .place) ≡ true
   taken-fits = le-leb (c .place + roomOf (lenAt s (c .place))) (length s) (taken s c f d e .inside)
 
-  next-place : d .place ≡ c .place + roomOf (lenAt s (c .place))
+  pub next-place : d .place ≡ c .place + roomOf (lenAt s (c .place))
   next-place = ap (λ (x : Cursor). x .place) (taken s c f d e .next)
 
   -- it is the next of the fields
@@ -93,47 +92,63 @@ module _ (s : List ℕ) (c : Cursor) (w : Walked) (q : w ≡ walkOf s c) (al : c
 pub cut-off : (s : List ℕ) (p : ℕ) → fits s p ≡ false → p < length s → exactFrom s p ≡ false
 cut-off s p e l = rw (from-none s p e, add-zero p) (ne-eqb p (length s) (λ z. omega arith))
 
--- The cursor stands where the rest of the body divides into fields: so it does all along the walk over a well-formed body.
-pub record Along (s : List ℕ) (c : Cursor) : Type 0 where
-  pub aligned : c .place % 16 ≡ 0
-  pub within : c .place ≤ length s
-  pub exact : exactFrom s (c .place) ≡ true
-  pub ends : endsEmpty (fieldsFrom s (c .place)) ≡ true
+-- ---- the fields that the walk takes, of any bytes
+aligned-from : (s : List ℕ) (p : ℕ) → p % 16 ≡ 0 → takenFrom s p ≡ walkable (fieldsFrom s p)
+aligned-from s p h = ap (λ (b : Bool). cond b (walkable (fieldsFrom s p)) []) (eq-eqb (p % 16) 0 h)
 
-pub along-start : (s : List ℕ) → wellFormed s ≡ true → Along s start
-unfolding wellFormed
-along-start s h =
-    let x = both (exactFrom s 0) _ h in
-    record { aligned = refl; within = omega arith; exact = x .0; ends = both (endsEmpty (fieldsOf s)) _ (x .1) .0 }
+walkable-no : (f : Stored) (fs : List Stored) → endWithData (f .kind) (length (f .content)) ≡ false → walkable (f ∷ fs) ≡ f ∷ walkable fs
+unfolding walkable
+walkable-no f fs h = rw h
 
-pub along-took : (s : List ℕ) (c : Cursor) (f : Field) (d : Cursor) → walkOf s c ≡ Took f d → Along s c → Along s d
-along-took s c f d e a =
-    let w = forward s c f d e in
-    record {
-      aligned = w .2;
-      within = w .1;
-      exact = sym (exact-took s c f d e) ∙ a .exact;
-      ends = both (not (endWithData (storedAt s (c .place) .kind) (length (storedAt s (c .place) .content)))) (endsEmpty (fieldsFrom s (d .place))) (ap endsEmpty (sym (from-took s c f d e)) ∙ a .ends) .1;
-    }
+walkable-yes : (f : Stored) (fs : List Stored) → endWithData (f .kind) (length (f .content)) ≡ true → walkable (f ∷ fs) ≡ []
+unfolding walkable
+walkable-yes f fs h = rw h
 
--- before the end the walk takes a field
-pub along-else : (s : List ℕ) (c : Cursor) (w : Walked) → w ≡ walkOf s c → Along s c → c .place < length s → OneOf (1 ∷ 2 ∷ 3 ∷ []) (tagOf walked.the-type w) → ⊥
-along-else s c w q a l o =
-    ⊎-elim (λ x. true≢false (sym (a .exact) ∙ cut-off s (c .place) x l))
-    (λ x. false≢true (sym (ap not (x .1)) ∙ both (not (endWithData (storedAt s (c .place) .kind) (length (storedAt s (c .place) .content)))) _ (ap endsEmpty (sym (x .0)) ∙ a .ends) .0))
-    (untaken s c w q (a .aligned) o)
+walkable-none : walkable [] ≡ []
+unfolding walkable
+walkable-none = refl
 
--- what the HMAC covers from a cursor on: the data of the field that the walk takes, and what it covers from the next cursor on
-abbrev pub coveredFrom : List ℕ → Cursor → List ℕ
-coveredFrom s c = covered (fieldsFrom s (c .place))
+-- all, where every END is empty
+pub walkable-all : (fs : List Stored) → endsEmpty fs ≡ true → walkable fs ≡ fs
+walkable-all [] h = walkable-none
+walkable-all (f ∷ fs) h =
+    let x = both (not (endWithData (f .kind) (length (f .content)))) (endsEmpty fs) h in
+    walkable-no f fs (by (endWithData (f .kind) (length (f .content))) (x .0)) ∙ ap (_∷_ f) (walkable-all fs (x .1))
+  where
+    by : (b : Bool) → not b ≡ true → b ≡ false
+    by true h = absurd (false≢true h)
+    by false h = refl
 
-abbrev pub dataOf : List ℕ → Field → List ℕ
-dataOf s f = take (f .len) (drop (f .place + 5) s)
+pub taken-took : (s : List ℕ) (c : Cursor) (f : Field) (d : Cursor) → walkOf s c ≡ Took f d → takenFrom s (c .place) ≡ storedAt s (c .place) ∷ takenFrom s (d .place)
+taken-took s c f d e =
+    aligned-from s (c .place) (taken s c f d e .aligned)
+    ∙ ap walkable (from-took s c f d e)
+    ∙ walkable-no _ _ (taken-no-data s c f d e)
+    ∙ ap (_∷_ (storedAt s (c .place))) (sym (aligned-from s (d .place) (forward s c f d e .2)))
 
-pub covered-took : (s : List ℕ) (c : Cursor) (f : Field) (d : Cursor) → walkOf s c ≡ Took f d → coveredFrom s c ≡ dataOf s f ++ coveredFrom s d
-covered-took s c f d e =
-    ap covered (from-took s c f d e)
-    ∙ ap (λ (x : Field). dataOf s x ++ coveredFrom s d) (sym (taken s c f d e .field))
+pub taken-else : (s : List ℕ) (c : Cursor) (w : Walked) → w ≡ walkOf s c → OneOf (1 ∷ 2 ∷ 3 ∷ []) (tagOf walked.the-type w) → takenFrom s (c .place) ≡ []
+taken-else s c w q o = by (eqb (c .place % 16) 0) refl
+  where
+    by : (b : Bool) → eqb (c .place % 16) 0 ≡ b → cond b (walkable (fieldsFrom s (c .place))) [] ≡ []
+    by true h =
+        ⊎-elim (λ e. ap walkable (from-none s (c .place) e) ∙ walkable-none) (λ e. ap walkable (e .0) ∙ walkable-yes _ _ (e .1))
+        (untaken s c w q (eqb-true _ _ h) o)
+    by false h = refl
 
-pub covered-stop : (s : List ℕ) (c : Cursor) → length s ≤ c .place → coveredFrom s c ≡ []
-covered-stop s c h = ap covered (from-end s c h)
+pub taken-stop : (s : List ℕ) (c : Cursor) → length s ≤ c .place → takenFrom s (c .place) ≡ []
+taken-stop s c h = by (eqb (c .place % 16) 0)
+  where
+    by : (b : Bool) → cond b (walkable (fieldsFrom s (c .place))) [] ≡ []
+    by true = ap walkable (from-end s c h) ∙ walkable-none
+    by false = refl
+
+-- A loop that folds any step along them keeps this: with the fields that are left, go comes to y. It starts at y = go of all.
+module _ {A : Type 0} (go : List Stored → A) (y : A) (s : List ℕ) (c : Cursor) (k : go (takenFrom s (c .place)) ≡ y) where
+  pub fold-took : (f : Field) (d : Cursor) → walkOf s c ≡ Took f d → go (storedAt s (c .place) ∷ takenFrom s (d .place)) ≡ y
+  fold-took f d e = ap go (sym (taken-took s c f d e)) ∙ k
+
+  pub fold-else : (w : Walked) → w ≡ walkOf s c → OneOf (1 ∷ 2 ∷ 3 ∷ []) (tagOf walked.the-type w) → go [] ≡ y
+  fold-else w q o = ap go (sym (taken-else s c w q o)) ∙ k
+
+  pub fold-stop : length s ≤ c .place → go [] ≡ y
+  fold-stop h = ap go (sym (taken-stop s c h)) ∙ k

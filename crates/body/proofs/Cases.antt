@@ -8,14 +8,13 @@ use lib.Dec.{ltb}
 use lib.ListN.{length, getD, drop, replicate}
 use borrow.Author.Tests.{ltb-true}
 use Rattle.words.specs.Numbers.{numberLow, bytesLow, Bytes, none, more}
-use Rattle.text.specs.Decision as Text
 use Rattle.fields.specs.Stored.{Stored, stored, fillOf}
-use Rattle.fields.specs.Value.{to, recordShape, valueOf}
+use Rattle.fields.specs.Value.{to}
 use Rattle.body.specs.Division.{Each, Whole, joined}
-use Rattle.body.specs.Sections.{runs}
+use Rattle.body.specs.Sections.{runs, firstData}
 use Rattle.body.specs.WellFormed.{WellFormed}
-use Rattle.body.specs.Decision.{divided, goodHeader, goodRecord, goodRuns, wellFormed, coveredOf, judgedOf}
-use Rattle.body.specs.Find.{firstWith, findOf}
+use Rattle.body.specs.Decision.{divided, walkable, goodHeader, goodRecord, goodRuns, wellFormed, coveredOf, judgedOf}
+use Rattle.body.specs.Find.{isUuid, firstWith, findOf}
 use Rattle.body.specs.declared.Judged.{Judged}
 use Rattle.body.specs.declared.Judged.the-variants.{Counts, NotWellFormed}
 use Rattle.body.specs.declared.Sought.{Sought}
@@ -161,7 +160,7 @@ pub cases : (map (λ c. judgedOf (c .0)) bodies ≡ map (λ c. c .1) bodies)
     × (map judgedOf others ≡ map (λ s. NotWellFormed) others)
     × (map (λ c. c .0) finds ≡ map (λ c. c .1) finds)
     × (map (λ c. c .0) covers ≡ map (λ c. c .1) covers)
-unfolding numberLow bytesLow Text.endsWhole recordShape valueOf runs divided goodHeader goodRecord goodRuns wellFormed judgedOf firstWith findOf
+unfolding numberLow bytesLow runs firstData divided walkable goodHeader goodRecord goodRuns wellFormed judgedOf isUuid firstWith findOf
 cases = (refl, refl, refl, refl)
 
 none-are : (ss : List (List ℕ)) → map wellFormed ss ≡ map (λ s. false) ss → Each (λ s. WellFormed s → ⊥) ss

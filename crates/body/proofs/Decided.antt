@@ -17,6 +17,7 @@ use Rattle.body.specs.Sections.{runs, count, covered}
 use Rattle.body.specs.WellFormed.{VersionFirst, onceInHeader, One, GoodRecord, WellFormed}
 use Rattle.body.specs.Decision.{
   fieldsOf,
+  walkable,
   exactFrom,
   endsEmpty,
   versionFirst,
@@ -33,6 +34,7 @@ use Rattle.body.specs.Decision.{
   coveredOf,
 }
 use Rattle.body.proofs.Division.{divides, division, exact}
+use Rattle.body.proofs.Along.{walkable-all}
 use Rattle.body.proofs.Tests.{both, and, equal, at-most, each, where-equal}
 
 -- every END has length 0
@@ -154,7 +156,9 @@ module _ (s : List ℕ) where
   well-formed b = (decided b, decides)
 
   pub covered-are : (w : WellFormed s) → coveredOf s ≡ covered (w .fields)
-  covered-are w = ap covered (fields-are w)
+  covered-are w =
+      ap (λ (l : List Stored). covered (walkable l)) (fields-are w)
+      ∙ ap covered (walkable-all (w .fields) (ends-empty (w .fields) .1 (w .ends)))
 
   runs-are : (w : WellFormed s) → runs (fieldsOf s) ≡ w .header ∷ (w .records ++ ([] ∷ []))
   runs-are w = ap runs (fields-are w) ∙ w .sections

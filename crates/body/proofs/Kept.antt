@@ -20,6 +20,7 @@ use Rattle.body.specs.Sections.{isEnd, push, runs, count, covered}
 use Rattle.body.specs.WellFormed.{onceInHeader, WellFormed}
 use Rattle.body.specs.Decision.{
   all,
+  walkable,
   endsEmpty,
   versionFirst,
   one,
@@ -260,9 +261,14 @@ good-bare : (fs : List Stored) → good (strip fs) ≡ good fs
 good-bare [] = refl
 good-bare (f ∷ fs) = kept-good (bare f) f (strip fs) fs refl refl (kept-bare false (f ∷ fs))
 
-covered-bare : (fs : List Stored) → covered (strip fs) ≡ covered fs
+covered-bare : (fs : List Stored) → covered (walkable (strip fs)) ≡ covered (walkable fs)
+unfolding walkable
 covered-bare [] = refl
-covered-bare (f ∷ fs) = ap (_++_ (f .content)) (covered-bare fs)
+covered-bare (f ∷ fs) = by (endWithData (f .kind) (length (f .content))) (covered-bare fs)
+  where
+    by : (t : Bool) → covered (walkable (strip fs)) ≡ covered (walkable fs) → covered (cond t [] (bare f ∷ walkable (strip fs))) ≡ covered (cond t [] (f ∷ walkable fs))
+    by true h = refl
+    by false h = ap (_++_ (f .content)) h
 
 push-bare : (f : Stored) (us : List (List Stored)) → push (bare f) (strips us) ≡ strips (push f us)
 push-bare f [] = refl
@@ -308,10 +314,13 @@ judged-by : (s : List ℕ) (fs : List Stored) → Divides s fs → judgedOf s �
 unfolding judgedOf
 judged-by s fs d = rw (good-of s fs d, division s fs d)
 
+abbrev data-of : List Stored → List ℕ
+data-of fs = covered (walkable fs)
+
 -- two bodies whose fields differ in their fill only are judged alike, and their HMACs cover the same bytes
 pub fill-kept : (s t : List ℕ) (fs gs : List Stored) → Divides s fs → Divides t gs → strip fs ≡ strip gs
     → (judgedOf s ≡ judgedOf t) × (coveredOf s ≡ coveredOf t)
 fill-kept s t fs gs d e h = (
   judged-by s fs d ∙ sym (judged-bare fs) ∙ ap judgedBy h ∙ judged-bare gs ∙ sym (judged-by t gs e),
-  ap covered (division s fs d) ∙ sym (covered-bare fs) ∙ ap covered h ∙ covered-bare gs ∙ ap covered (sym (division t gs e)),
+  ap data-of (division s fs d) ∙ sym (covered-bare fs) ∙ ap data-of h ∙ covered-bare gs ∙ ap data-of (sym (division t gs e)),
 )

@@ -6,9 +6,12 @@ mod Sums
 mod OnceTypes
 mod Verdict
 pub mod Along
+pub mod Sectioned
+mod Keeps
 mod FirstField
 mod Stands
 mod Hunt
 pub mod Answers
+pub mod FindCall
 pub mod Kept
 pub mod Cases

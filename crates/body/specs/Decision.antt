@@ -1,6 +1,6 @@
 -- The well-formed body (WellFormed.antt) as functions of the bytes: the fields of a body, whether it is well formed, what its HMAC covers, its counts. That `wellFormed` holds exactly
 -- of the well-formed bodies, and the rest exactly of their fields, is shown in proofs/Decided.antt.
-use Prim.Native.Nat.{ℕ, zero, suc, _+_, _-_}
+use Prim.Native.Nat.{ℕ, zero, suc, _+_, _-_, _%_}
 use mathlib.Core.Bool.{Bool, true, false, cond, not, _&&_}
 use mathlib.Core.List.{List, [], _∷_}
 use lib.Dec.{leb, eqb}
@@ -36,6 +36,15 @@ fieldsFrom s p = divided (length s) s p
 
 abbrev pub fieldsOf : List ℕ → List Stored
 fieldsOf s = fieldsFrom s 0
+
+-- those before the first END with data, which the walk does not take
+unfoldable pub walkable : List Stored → List Stored
+walkable [] = []
+walkable (f ∷ fs) = cond (endWithData (f .kind) (length (f .content))) [] (f ∷ walkable fs)
+
+-- the fields that the walk takes from place p on: none where p is no multiple of 16
+abbrev pub takenFrom : List ℕ → ℕ → List Stored
+takenFrom s p = cond (eqb (p % 16) 0) (walkable (fieldsFrom s p)) []
 
 -- a test that each element passes
 abbrev pub all : {A : Type 0} → (A → Bool) → List A → Bool
@@ -91,8 +100,9 @@ headersOf s = length (headerIn (runs (fieldsOf s)))
 abbrev pub recordsOf : List ℕ → ℕ
 recordsOf s = length (recordsIn (runs (fieldsOf s)))
 
+-- the data of the fields that the walk takes; of a well-formed body these are all its fields
 abbrev pub coveredOf : List ℕ → List ℕ
-coveredOf s = covered (fieldsOf s)
+coveredOf s = covered (takenFrom s 0)
 
 -- the counts, or 9
 unfoldable pub judgedOf : List ℕ → Judged

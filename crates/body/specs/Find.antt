@@ -1,37 +1,31 @@
 -- Find: the first record with the UUID, by its number from 0 and the place of its first field; none; or 9.
 use Prim.Native.Nat.{ℕ, _+_}
-use mathlib.Core.Bool.{Bool, true, false, cond, _&&_, _||_}
-use mathlib.Core.List.{List, [], _∷_}
+use mathlib.Core.Path.{_≡_}
+use mathlib.Core.Bool.{Bool, true, cond, _&&_}
+use mathlib.Core.List.{List, [], _∷_, _++_}
 use lib.Dec.{eqb}
-use lib.ListN.{length}
+use lib.ListN.{length, take, drop}
+use Rattle.words.specs.Numbers.{numberLow}
 use Rattle.fields.specs.Stored.{Stored}
 use Rattle.fields.specs.Value.{valueOf}
-use Rattle.fields.specs.declared.value.Value.{Value}
-use Rattle.fields.specs.declared.value.Value.the-variants as Value
-use Rattle.body.specs.Division.{joined}
-use Rattle.body.specs.Sections.{runs}
+use Rattle.fields.specs.Walk.{walkOf}
+use Rattle.fields.specs.declared.Cursor.{Cursor}
+use Rattle.fields.specs.declared.Walked.the-variants.{Took}
+use Rattle.body.specs.Division.{Each, joined}
+use Rattle.body.specs.Sections.{runs, firstData}
+use Rattle.body.specs.WellFormed.{WellFormed}
 use Rattle.body.specs.Decision.{fieldsOf, wellFormed, headerIn, recordsIn}
 use Rattle.body.specs.declared.Sought.{Sought}
 use Rattle.body.specs.declared.Sought.the-variants.{At, Nowhere, NotWellFormed}
 use Rattle.body.specs.declared.Found.{Found}
 
--- the value is the UUID of halves a and b
-abbrev pub isUuid : Value → ℕ → ℕ → Bool
-isUuid Value.Empty a b = false
-isUuid Value.End a b = false
-isUuid (Value.Uuid x y) a b = eqb x a && eqb y b
-isUuid (Value.Time t) a b = false
-isUuid (Value.Number n) a b = false
-isUuid (Value.Flag t) a b = false
-isUuid Value.Text a b = false
-isUuid Value.BadText a b = false
-isUuid Value.Misshapen a b = false
-isUuid Value.Opaque a b = false
+-- the data are the 16 bytes of the UUID of halves a and b: bytes 0 to 7 and bytes 8 to 15
+unfoldable pub isUuid : List ℕ → ℕ → ℕ → Bool
+isUuid d a b = eqb (length d) 16 && (eqb (numberLow (take 8 d)) a && eqb (numberLow (take 8 (drop 8 d))) b)
 
--- a record has the UUID when one of its fields has it as its value
+-- a record has the UUID when its first field of type 01 has these 16 bytes
 abbrev pub has : ℕ → ℕ → List Stored → Bool
-has a b [] = false
-has a b (f ∷ fs) = isUuid (valueOf true (f .kind) (f .content)) a b || has a b fs
+has a b r = isUuid (firstData 0x01 r) a b
 
 -- among records of which the first is number n and starts at place p; each takes its fields' bytes and those of its END
 unfoldable pub firstWith : ℕ → ℕ → ℕ → ℕ → List (List Stored) → Sought
@@ -54,3 +48,39 @@ abbrev pub findValues : Sought → List ℕ
 findValues (At n p) = n ∷ p ∷ []
 findValues Nowhere = []
 findValues NotWellFormed = []
+
+-- ==== What an answer says, of a UUID of 16 bytes
+-- the place behind some sections and their ENDs, which take a block each
+abbrev pub placeBehind : List (List Stored) → ℕ
+placeBehind [] = 0
+placeBehind (u ∷ us) = length (joined u) + 16 + placeBehind us
+
+-- a record's field of type 01 has the bytes uuid as its data; there is one such field
+abbrev pub HasUuid : List ℕ → List Stored → Type 0
+HasUuid uuid r = firstData 0x01 r ≡ uuid
+
+-- the body is well formed, and its record of number n, at place p, is the first that has the UUID
+pub record FoundAt (body uuid : List ℕ) (n p : ℕ) : Type 0 where
+  pub well-formed : WellFormed body
+  -- the record, those before it and those after it
+  pub before : List (List Stored)
+  pub found : List Stored
+  pub others : List (List Stored)
+  pub records : well-formed .records ≡ before ++ (found ∷ others)
+  pub number : n ≡ length before
+  pub has-it : HasUuid uuid found
+  pub none-before : Each (λ r. HasUuid uuid r → ⊥) before
+  -- p is the place of its first field, and there the walk, in a record, takes this field
+  pub place : p ≡ placeBehind (well-formed .header ∷ before)
+  pub field : Stored
+  pub rest : List Stored
+  pub fields : found ≡ field ∷ rest
+  pub next : Cursor
+  pub taken : walkOf body (record { place = p; «in_record» = true })
+      ≡ Took (record { kind = field .kind; place = p; len = length (field .content); value = valueOf true (field .kind) (field .content) }) next
+
+-- what each answer says
+abbrev pub Says : List ℕ → List ℕ → Sought → Type 0
+Says body uuid (At n p) = FoundAt body uuid n p
+Says body uuid Nowhere = (w : WellFormed body) × Each (λ r. HasUuid uuid r → ⊥) (w .records)
+Says body uuid NotWellFormed = WellFormed body → ⊥

@@ -24,6 +24,11 @@ abbrev pub count : ℕ → List Stored → ℕ
 count k [] = 0
 count k (f ∷ fs) = cond (eqb (f .kind) k) 1 0 + count k fs
 
+-- the data of the first field of type k; absent is empty
+unfoldable pub firstData : ℕ → List Stored → List ℕ
+firstData k [] = []
+firstData k (f ∷ fs) = cond (eqb (f .kind) k) (f .content) (firstData k fs)
+
 -- the data bytes of all fields in order: what the HMAC covers, and neither lengths, types nor fill
 abbrev pub covered : List Stored → List ℕ
 covered [] = []

@@ -1,4 +1,4 @@
--- What the code keeps of the section that it is in, the header or a record. Nothing here is to be believed: the contract of `judge` does not mention it.
+-- What the code keeps of the section that it is in, the header or a record, and of a record's first fields. Nothing here is to be believed: no contract of a public function mentions it.
 use Prim.Native.Nat.{ℕ}
 use mathlib.Core.Bool.{Bool, true, false, cond, not, _&&_}
 use mathlib.Core.List.{List, [], _∷_}
@@ -9,6 +9,9 @@ use Rattle.body.specs.WellFormed.{onceInHeader}
 use Rattle.body.specs.Sections.{runs}
 use Rattle.body.specs.Decision.{fieldsOf, exactFrom, endsEmpty, goodRuns, headersOf, recordsOf}
 use Rattle.body.specs.declared.tally.Section.{Section}
+use Rattle.body.specs.declared.records.Spot.{Spot}
+use Rattle.body.specs.declared.records.Spot.the-variants.{At, Absent}
+use Rattle.body.specs.declared.records.Firsts.{Firsts}
 use Rattle.body.specs.declared.Judged.{Judged}
 use Rattle.body.specs.declared.Judged.the-variants.{Counts, NotWellFormed}
 
@@ -50,11 +53,29 @@ headerField r k = cond r 0 (cond (eqb k 0xff) 0 1)
 abbrev pub recordEnd : Bool → ℕ → ℕ
 recordEnd r k = cond r (cond (eqb k 0xff) 1 0) 0
 
--- the first place of the present section: the next place after an END
-abbrev pub firstPlace : ℕ → ℕ → ℕ → ℕ
-firstPlace k p q = cond (eqb k 0xff) q p
-
 -- all but Version
 unfoldable pub sectionsOf : List ℕ → Judged
 sectionsOf s =
     cond (exactFrom s 0 && (endsEmpty (fieldsOf s) && goodRuns false (runs (fieldsOf s)))) (Counts (headersOf s) (recordsOf s)) NotWellFormed
+
+-- what was found, or else this field where it is of type k
+abbrev pub orElse : Spot → Spot → Spot
+orElse (At p n) y = At p n
+orElse Absent y = y
+
+abbrev pub spotIf : ℕ → ℕ → ℕ → ℕ → Spot
+spotIf k kind p n = cond (eqb kind k) (At p n) Absent
+
+abbrev pub noFirsts : Firsts
+noFirsts = record { uuid = Absent; group = Absent; title = Absent; user = Absent; expiry = Absent }
+
+-- one field more, with its data at place p
+abbrev pub firstsWith : Firsts → ℕ → ℕ → ℕ → Firsts
+firstsWith x kind p n =
+    record {
+      uuid = orElse (x .uuid) (spotIf 0x01 kind p n);
+      group = orElse (x .group) (spotIf 0x02 kind p n);
+      title = orElse (x .title) (spotIf 0x03 kind p n);
+      user = orElse (x .user) (spotIf 0x04 kind p n);
+      expiry = orElse (x .expiry) (spotIf 0x0a kind p n);
+    }

@@ -2,10 +2,12 @@
 use fields::Value;
 use fields::Walked;
 
+pub mod records;
 mod tally;
 
 ghost use mathlib.Core.Path.{_≡_};
-ghost use mathlib.Core.Bool.{true, _&&_};
+ghost use mathlib.Core.Bool.{true};
+ghost use Rattle.words.specs.Numbers.{Bytes};
 ghost use Rattle.body.specs.Sections.{runs};
 ghost use Rattle.body.specs.Decision.{fieldsOf, versionFirst, wellFormed, judgedOf};
 ghost use Rattle.body.specs.Find.{isUuid, soughtIn, findOf};
@@ -92,18 +94,15 @@ pub fn well_formed(body: &[u8]) -> bool
     true
 }
 
-// A record's field with the UUID of these halves.
-fn matches(in_record: bool, v: Value, low: u64, high: u64) -> bool
-    ensures { λ r. ⌜ r ≡ («in_record» && isUuid v low high) ⌝ }
+// Whether these are the 16 bytes of the UUID of these halves.
+fn is_uuid(d: &[u8], low: u64, high: u64) -> bool
+    ensures { λ r. ⌜ r ≡ isUuid (now (d .entry)) low high ⌝ }
 {
-    if in_record {
-        let Value::Uuid(x, y) = v else {
-            return false;
-        };
-        if x == low {
-            return y == high;
-        }
+    let Value::Uuid(x, y) = fields::value::value_of(true, 0x01, d) else {
         return false;
+    };
+    if x == low {
+        return y == high;
     }
     false
 }
@@ -112,27 +111,25 @@ fn seek(body: &[u8], low: u64, high: u64) -> Sought
     requires { ⌜ wellFormed (now body) ≡ true ⌝ }
     ensures { λ r. ⌜ r ≡ soughtIn low high (runs (fieldsOf (now (body .entry)))) ⌝ }
 {
-    let mut c = fields::start();
+    let header = records::record_at(body, 0);
+    let mut at = header.next;
     let mut number: usize = 0;
-    let mut first: usize = 0;
-    while c.place < body.len() {
-        let Walked::Took(f, next) = fields::walk(body, c) else {
-            return Sought::NotWellFormed;
-        };
-        let v = f.value;
-        if matches(c.in_record, v, low, high) {
-            return Sought::At(number, first);
+    while at < body.len() {
+        let r = records::record_at(body, at);
+        let firsts = r.firsts;
+        let uuid = firsts.uuid;
+        if is_uuid(records::content(body, uuid), low, high) {
+            return Sought::At(number, at);
         }
-        number += tally::record_end(c.in_record, f.kind);
-        first = tally::first_place(f.kind, first, next.place);
-        c = next;
+        number += 1;
+        at = r.next;
     }
     Sought::Nowhere
 }
 
 // The first record with the UUID of these halves.
 pub fn find(body: &[u8], low: u64, high: u64) -> Found
-    ensures { λ r. ⌜ r ≡ findOf (now (body .entry)) low high ⌝ }
+    ensures { λ r. ⌜ (r ≡ findOf (now (body .entry)) low high) × Bytes (now (body .entry)) ⌝ }
 {
     if well_formed(body) {
         let sought = seek(body, low, high);

@@ -1,7 +1,7 @@
 // What is kept of the section that a pass over a body is in, the header or a record.
 ghost use mathlib.Core.Path.{_≡_};
 ghost use Rattle.fields.specs.Value.{among};
-ghost use Rattle.body.specs.Tally.{once, lengthFits, emptySection, stillFine, noted, passes, stepped, headerField, recordEnd, firstPlace};
+ghost use Rattle.body.specs.Tally.{once, lengthFits, emptySection, stillFine, noted, passes, stepped, headerField, recordEnd};
 
 // Which of the types that may occur once were seen (13 is the highest), whether all is right so far, and whether the section has a field.
 pub struct Section {
@@ -157,14 +157,4 @@ pub fn record_end(in_record: bool, kind: u8) -> usize
         return 0;
     }
     0
-}
-
-// The place of the present section's first field, after a field of this type; the next place is the first of a section after an END.
-pub fn first_place(kind: u8, first: usize, next: usize) -> usize
-    ensures { λ r. ⌜ r ≡ firstPlace kind first next ⌝ }
-{
-    if kind == 0xff {
-        return next;
-    }
-    first
 }

@@ -54,10 +54,11 @@ pub fn append(buf: &mut [u8], place: usize, kind: u8, content: &[u8], fill: &[u8
     if size < place {
         return Appended::Misplaced;
     }
-    if crate::end_with_data(kind, n) {
+    let ended = crate::end_with_data(kind, n);
+    let needed = crate::fill_for(n);
+    if ended {
         return Appended::EndWithData;
     }
-    let needed = crate::fill_for(n);
     if fill.len() != needed {
         return Appended::BadFill;
     }

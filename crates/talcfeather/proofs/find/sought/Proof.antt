@@ -16,7 +16,7 @@ unfolding soughtOf
 returns-2 c =
     let a = c .before .before .before .before .before .before .before .args in
     let halves = uuid-halves (a .uuid .now) _ _ (c .before .before .before .before .before .before .before .pre) (sym (c .before .before .before .before .value-of .ensures) ∙ c .before .before .low .given .1) in
-    ap (λ (f : Found). f .sought) (c .find .ensures ∙ ap₂ (findOf (a .body .now)) (halves .0) (halves .1))
+    ap (λ (f : Found). f .sought) (c .find .ensures .0 ∙ ap₂ (findOf (a .body .now)) (halves .0) (halves .1))
 
 pub sought-spec : {M : Type 1} → statement M
 sought-spec = tie.close (tie.spec (λ c κs. search needs) (λ c. search needs) returns (λ c κs. search needs) returns-2)

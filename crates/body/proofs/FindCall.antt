@@ -1,0 +1,255 @@
+-- What the answer of a call of `find` says of the 16 bytes that are sought: the search over the records stops at the first that has them, by recursion on the records; two halves
+-- say 16 bytes; and where the sections before a record are passed, the walk stands at its first field.
+use Prim.Native.Nat.{ℕ, suc, _+_, _-_, _<_, _≤_}
+use mathlib.Core.Path.{_≡_, refl, sym, ap, ap₂, subst, _∙_}
+use mathlib.Core.Bool.{Bool, true, false, cond, _&&_, false≢true, true≢false}
+use mathlib.Core.List.{List, [], _∷_, _++_}
+use native.Mathlib.Nat.{add-zero, zero-add}
+use native.Mathlib.Omega.{arith}
+use lib.Dec.{eqb}
+use lib.ListN.{length, take, drop, length-take, length-drop, take-append-drop}
+use lib.Seq.{take-all}
+use borrow.Author.Tests.{eqb-true, eq-eqb}
+use Rattle.words.specs.Numbers.{numberLow, bytesLow, Bytes, none, Sized}
+use Rattle.words.proofs.ByteLaws.{bytes-take, bytes-drop}
+use Rattle.words.proofs.NumberLaws.{bytes-number}
+use Rattle.fields.specs.Stored.{Stored}
+use Rattle.fields.specs.Value.{valueOf}
+use Rattle.fields.specs.Walk.{walkOf, fieldAt, after, kindAt, lenAt, dataAt}
+use Rattle.fields.specs.declared.Field.{Field}
+use Rattle.fields.specs.declared.Walked.the-variants.{Took}
+use Rattle.body.specs.Division.{Each, Whole, joined}
+use Rattle.body.specs.Sections.{isEnd, push, runs, count, firstData}
+use Rattle.body.specs.WellFormed.{GoodRecord, WellFormed}
+use Rattle.body.specs.Decision.{storedAt, fieldsOf, takenFrom, wellFormed, headerIn, recordsIn}
+use Rattle.body.specs.RecordAt.{beforeEnd, recordAt}
+use Rattle.body.specs.Find.{isUuid, has, firstWith, findOf, placeBehind, HasUuid, FoundAt, Says}
+use Rattle.body.specs.declared.Sought.{Sought}
+use Rattle.body.specs.declared.Sought.the-variants.{At, Nowhere, NotWellFormed}
+use Rattle.body.specs.declared.Found.{Found}
+use Rattle.body.proofs.Tests.{both}
+use Rattle.body.proofs.Decided.{well-formed, decides, header-is, records-are}
+use Rattle.body.proofs.Answers.{find-is}
+use Rattle.body.proofs.Sectioned.{inside, Next, taken-next, Left, Turn, left-start, left-turn}
+
+-- ---- two halves say 16 bytes
+module _ (d u : List ℕ) (x : Bytes d) (y : Bytes u) where
+  number-inj : length d ≡ length u → numberLow d ≡ numberLow u → d ≡ u
+  number-inj l e = sym (bytes-number x) ∙ ap₂ bytesLow l e ∙ bytes-number y
+
+halves-inj : (d u : List ℕ) → Bytes d → Sized 16 u → length d ≡ 16 → numberLow (take 8 d) ≡ numberLow (take 8 u) → numberLow (take 8 (drop 8 d)) ≡ numberLow (take 8 (drop 8 u)) → d ≡ u
+halves-inj d u x y l e f =
+    let z = y .long in
+    let i : take 8 d ≡ take 8 u = number-inj (take 8 d) (take 8 u) (bytes-take 8 x) (bytes-take 8 (y .bytes)) (simp length-take (omega arith)) e in
+    let j : take 8 (drop 8 d) ≡ take 8 (drop 8 u) = number-inj (take 8 (drop 8 d)) (take 8 (drop 8 u)) (bytes-take 8 (bytes-drop 8 x)) (bytes-take 8 (bytes-drop 8 (y .bytes))) (simp (length-take, length-drop) (omega arith)) f in
+    let a : take 8 (drop 8 d) ≡ drop 8 d = take-all 8 (drop 8 d) (omega (arith, length-drop 8 d)) in
+    let b : take 8 (drop 8 u) ≡ drop 8 u = take-all 8 (drop 8 u) (omega (arith, length-drop 8 u)) in
+    sym (take-append-drop 8 d) ∙ ap₂ _++_ i (sym a ∙ j ∙ b) ∙ take-append-drop 8 u
+
+module _ (uuid : List ℕ) (y : Sized 16 uuid) where
+  abbrev low : ℕ
+  low = numberLow (take 8 uuid)
+
+  abbrev high : ℕ
+  high = numberLow (take 8 (drop 8 uuid))
+
+  has-bytes : (d : List ℕ) → Bytes d → isUuid d low high ≡ true → d ≡ uuid
+  unfolding isUuid
+  has-bytes d x h =
+      let a = both (eqb (length d) 16) _ h in
+      let b = both (eqb (numberLow (take 8 d)) low) _ (a .1) in
+      halves-inj d uuid x y (eqb-true _ _ (a .0)) (eqb-true _ _ (b .0)) (eqb-true _ _ (b .1))
+
+  has-not : (d : List ℕ) → isUuid d low high ≡ false → d ≡ uuid → ⊥
+  unfolding isUuid
+  has-not d h e =
+      let z : isUuid uuid low high ≡ true = rw (eq-eqb (length uuid) 16 (y .long), eq-eqb low low refl, eq-eqb high high refl) in
+      true≢false (sym z ∙ ap (λ (c : List ℕ). isUuid c low high) (sym e) ∙ h)
+
+-- ---- the search
+-- the first of the records rs that has the UUID of halves a and b
+record First (a b n p : ℕ) (rs : List (List Stored)) (m q : ℕ) : Type 0 where
+  before : List (List Stored)
+  found : List Stored
+  others : List (List Stored)
+  parts : rs ≡ before ++ (found ∷ others)
+  number : m ≡ n + length before
+  place : q ≡ p + placeBehind before
+  it : has a b found ≡ true
+  not-before : Each (λ r. has a b r ≡ false) before
+
+module _ (a b : ℕ) where
+  first-at : (n p : ℕ) (rs : List (List Stored)) (m q : ℕ) → firstWith a b n p rs ≡ At m q → First a b n p rs m q
+  unfolding firstWith
+  first-at n p [] m q e = absurd (let z : _≡_ {A = ℕ} 0 1 = cc in omega arith)
+  first-at n p (r ∷ rs) m q e = by (has a b r) refl e (first-at (n + 1) (p + length (joined r) + 16) rs m q)
+    where
+      by : (t : Bool) → has a b r ≡ t → cond t (At n p) (firstWith a b (n + 1) (p + length (joined r) + 16) rs) ≡ At m q
+          → (firstWith a b (n + 1) (p + length (joined r) + 16) rs ≡ At m q → First a b (n + 1) (p + length (joined r) + 16) rs m q) → First a b n p (r ∷ rs) m q
+      by true h e ih =
+          let i : m ≡ n = cc in
+          let j : q ≡ p = cc in
+          record { before = []; found = r; others = rs; parts = refl; number = omega arith; place = omega arith; it = h; not-before = tt }
+      by false h e ih =
+          let x = ih e in
+          record {
+            before = r ∷ x .before;
+            found = x .found;
+            others = x .others;
+            parts = ap (_∷_ r) (x .parts);
+            number = omega (arith, x .number);
+            place = omega (arith, x .place);
+            it = x .it;
+            not-before = (h, x .not-before);
+          }
+
+  first-none : (n p : ℕ) (rs : List (List Stored)) → firstWith a b n p rs ≡ Nowhere → Each (λ r. has a b r ≡ false) rs
+  unfolding firstWith
+  first-none n p [] e = tt
+  first-none n p (r ∷ rs) e = by (has a b r) refl e (first-none (n + 1) (p + length (joined r) + 16) rs)
+    where
+      by : (t : Bool) → has a b r ≡ t → cond t (At n p) (firstWith a b (n + 1) (p + length (joined r) + 16) rs) ≡ Nowhere
+          → (firstWith a b (n + 1) (p + length (joined r) + 16) rs ≡ Nowhere → Each (λ r. has a b r ≡ false) rs) → Each (λ r. has a b r ≡ false) (r ∷ rs)
+      by true h e ih = absurd (let z : _≡_ {A = ℕ} 0 1 = cc in omega arith)
+      by false h e ih = (h, ih e)
+
+  first-formed : (n p : ℕ) (rs : List (List Stored)) → firstWith a b n p rs ≡ NotWellFormed → ⊥
+  unfolding firstWith
+  first-formed n p [] e = let z : _≡_ {A = ℕ} 0 1 = cc in omega arith
+  first-formed n p (r ∷ rs) e = by (has a b r) e (first-formed (n + 1) (p + length (joined r) + 16) rs)
+    where
+      by : (t : Bool) → cond t (At n p) (firstWith a b (n + 1) (p + length (joined r) + 16) rs) ≡ NotWellFormed
+          → (firstWith a b (n + 1) (p + length (joined r) + 16) rs ≡ NotWellFormed → ⊥) → ⊥
+      by true e ih = let z : _≡_ {A = ℕ} 0 1 = cc in omega arith
+      by false e ih = ih e
+
+none-has : (uuid : List ℕ) → Sized 16 uuid → (rs : List (List Stored)) → Each (λ r. has (numberLow (take 8 uuid)) (numberLow (take 8 (drop 8 uuid))) r ≡ false) rs
+    → Each (λ r. HasUuid uuid r → ⊥) rs
+none-has uuid y [] h = tt
+none-has uuid y (r ∷ rs) h = (has-not uuid y (firstData 0x01 r) (h .0), none-has uuid y rs (h .1))
+
+-- ---- the record
+-- its data are bytes
+first-bytes : (k : ℕ) (u : List Stored) → Each Whole u → Bytes (firstData k u)
+unfolding firstData
+first-bytes k [] w = none
+first-bytes k (f ∷ u) w = by (eqb (f .kind) k) (first-bytes k u (w .1))
+  where
+    by : (t : Bool) → Bytes (firstData k u) → Bytes (cond t (f .content) (firstData k u))
+    by true h = w .0 .content
+    by false h = h
+
+runs-whole : (fs : List Stored) → Each Whole fs → Each (λ u. Each Whole u) (runs fs)
+unfolding runs
+runs-whole [] w = (tt, tt)
+runs-whole (f ∷ fs) w = by (isEnd f) (runs fs) (runs-whole fs (w .1))
+  where
+    by : (t : Bool) (us : List (List Stored)) → Each (λ u. Each Whole u) us → Each (λ u. Each Whole u) (cond t ([] ∷ us) (push f us))
+    by true us h = (tt, h)
+    by false [] h = ((w .0, tt), tt)
+    by false (u ∷ us) h = ((w .0, h .0), h .1)
+
+-- what holds of each of a list holds of one in its middle
+each-middle : {A : Type 0} (P : A → Type 0) (a : List A) (x : A) (b : List A) → Each P (a ++ (x ∷ b)) → P x
+each-middle P [] x b h = h .0
+each-middle P (y ∷ a) x b h = each-middle P a x b (h .1)
+
+each-front : {A : Type 0} (P : A → Type 0) (a b : List A) → Each P (a ++ b) → Each P a
+each-front P [] b h = tt
+each-front P (y ∷ a) b h = (h .0, each-front P a b (h .1))
+
+-- the walk behind the sections before it
+left-behind : (s : List ℕ) (p : ℕ) (before : List (List Stored)) (u : List Stored) (us : List (List Stored)) → Left s p (before ++ (u ∷ us)) → Left s (p + placeBehind before) (u ∷ us)
+left-behind s p [] u us l = rw (add-zero p) l
+left-behind s p (v ∷ before) u us l =
+    let t = left-turn s p v (before ++ (u ∷ us)) l in
+    let z : p + length (joined v) + 16 + placeBehind before ≡ p + (length (joined v) + 16 + placeBehind before) = omega arith in
+    rw (← z) (left-behind s (p + length (joined v) + 16) before u us (subst (λ (q : ℕ). Left s q (before ++ (u ∷ us))) (t .next) (t .left)))
+
+-- at a record's place the walk takes its first field
+pub record FirstField (s : List ℕ) (p : ℕ) (u : List Stored) : Type 0 where
+  field : Stored
+  rest : List Stored
+  fields : u ≡ field ∷ rest
+  taken : walkOf s (inside p) ≡ Took (record { kind = field .kind; place = p; len = length (field .content); value = valueOf true (field .kind) (field .content) }) (after s (inside p))
+
+first-field : (s : List ℕ) (p : ℕ) (u : List Stored) (us : List (List Stored)) → Left s p (u ∷ us) → count 0x01 u ≡ 1 → FirstField s p u
+unfolding beforeEnd
+first-field s p u us l c = by (takenFrom s p) refl (left-turn s p u us l .here)
+  where
+    shows : (f : Stored) (fs : List Stored) → Next s p f fs → fieldAt s (inside p) ≡ record { kind = f .kind; place = p; len = length (f .content); value = valueOf true (f .kind) (f .content) }
+    shows f fs n =
+        let k : kindAt s p ≡ f .kind = ap (λ (x : Stored). x .kind) (sym (n .is)) in
+        let d : dataAt s p ≡ f .content = ap (λ (x : Stored). x .content) (sym (n .is)) in
+        rw (k, d, sym (n .long))
+
+    by : (fs : List Stored) → takenFrom s p ≡ fs → beforeEnd fs ≡ u → FirstField s p u
+    by [] e h = absurd (omega (arith, ap (count 0x01) h, c))
+    by (f ∷ fs) e h = end (isEnd f) h (taken-next s p f fs e)
+      where
+        end : (t : Bool) → cond t [] (f ∷ beforeEnd fs) ≡ u → Next s p f fs → FirstField s p u
+        end true h n = absurd (omega (arith, ap (count 0x01) h, c))
+        end false h n =
+            record { field = f; rest = beforeEnd fs; fields = sym h; taken = n .walks ∙ ap (λ (x : Field). Took x (after s (inside p))) (shows f fs n) }
+
+-- ---- the call
+module _ (s uuid : List ℕ) (y : Sized 16 uuid) (x : Bytes s) where
+  abbrev answer : Sought
+  answer = findOf s (numberLow (take 8 uuid)) (numberLow (take 8 (drop 8 uuid))) .sought
+
+  module _ (w : WellFormed s) where
+    searched : answer ≡ firstWith (numberLow (take 8 uuid)) (numberLow (take 8 (drop 8 uuid))) 0 (length (joined (w .header)) + 16) (w .records)
+    searched = ap (λ (f : Found). f .sought) (find-is s (numberLow (take 8 uuid)) (numberLow (take 8 (drop 8 uuid))) w)
+
+    sections : Left s 0 (w .header ∷ w .records)
+    sections = rw (← header-is s w, ← records-are s w) (left-start s (decides s w))
+
+    found-at : (n p : ℕ) → answer ≡ At n p → FoundAt s uuid n p
+    found-at n p e =
+        let a = numberLow (take 8 uuid) in
+        let b = numberLow (take 8 (drop 8 uuid)) in
+        let t = first-at a b 0 (length (joined (w .header)) + 16) (w .records) n p (sym searched ∙ e) in
+        let place : p ≡ placeBehind (w .header ∷ t .before) = t .place in
+        let whole : Each (λ u. Each Whole u) (w .header ∷ (w .records ++ ([] ∷ []))) = subst (Each (λ u. Each Whole u)) (w .sections) (runs-whole (w .fields) (w .divides .whole)) in
+        let u = t .found in
+        let bytes = first-bytes 0x01 u (each-middle (λ u. Each Whole u) (t .before) u (t .others) (subst (Each (λ u. Each Whole u)) (t .parts) (each-front (λ u. Each Whole u) (w .records) ([] ∷ []) (whole .1)))) in
+        let good : GoodRecord u = each-middle GoodRecord (t .before) u (t .others) (subst (Each GoodRecord) (t .parts) (w .mandatory)) in
+        let left : Left s (0 + placeBehind (w .header ∷ t .before)) (u ∷ t .others) = left-behind s 0 (w .header ∷ t .before) u (t .others) (subst (λ (rs : List (List Stored)). Left s 0 (w .header ∷ rs)) (t .parts) sections) in
+        let f = first-field s p u (t .others) (subst (λ (q : ℕ). Left s q (u ∷ t .others)) (zero-add _ ∙ sym place) left) (good .uuid .once) in
+        record {
+          well-formed = w;
+          before = t .before;
+          found = u;
+          others = t .others;
+          records = t .parts;
+          number = t .number ∙ zero-add (length (t .before));
+          has-it = has-bytes uuid y (firstData 0x01 u) bytes (t .it);
+          none-before = none-has uuid y (t .before) (t .not-before);
+          place = place;
+          field = f .field;
+          rest = f .rest;
+          fields = f .fields;
+          next = after s (inside p);
+          taken = f .taken;
+        }
+
+  by-answer : (v : Sought) → answer ≡ v → Says s uuid v
+  unfolding findOf
+  by-answer v e = by (wellFormed s) refl
+    where
+      by : (t : Bool) → wellFormed s ≡ t → Says s uuid v
+      by true h = formed (well-formed s x .0 h) v e
+        where
+          formed : (w : WellFormed s) (v : Sought) → answer ≡ v → Says s uuid v
+          formed w (At n p) e = found-at w n p e
+          formed w Nowhere e = (w, none-has uuid y (w .records) (first-none _ _ 0 (length (joined (w .header)) + 16) (w .records) (sym (searched w) ∙ e)))
+          formed w NotWellFormed e = absurd (first-formed _ _ 0 (length (joined (w .header)) + 16) (w .records) (sym (searched w) ∙ e))
+      by false h =
+          let z : v ≡ NotWellFormed = sym e ∙ rw h in
+          rw z (λ w. false≢true (sym h ∙ decides s w))
+
+-- a call of `find` with the halves of 16 bytes, taken by its contract
+pub find-says : (s uuid : List ℕ) (r : Found) → Sized 16 uuid
+    → (r ≡ findOf s (numberLow (take 8 uuid)) (numberLow (take 8 (drop 8 uuid)))) × Bytes s
+    → Says s uuid (r .sought)
+find-says s uuid r y c = by-answer s uuid y (c .1) (r .sought) (ap (λ (f : Found). f .sought) (sym (c .0)))
