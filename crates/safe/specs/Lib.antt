@@ -2,5 +2,4 @@ pub mod V3
 pub mod Answers
 pub mod Steps
 pub mod Laying
-pub mod Part
 pub mod Calls

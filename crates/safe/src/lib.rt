@@ -1,7 +1,6 @@
 // Password Safe V3 files, read and written whole in lent memory.
 mod assemble;
 mod open;
-mod seal;
 mod tests;
 mod values;
 mod wrap;

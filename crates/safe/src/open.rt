@@ -2,7 +2,6 @@
 use super::Outcome;
 use super::Reading;
 use super::Refusal;
-use super::seal::seal;
 use super::values::iter;
 use super::values::value16;
 use super::values::value32;
@@ -57,7 +56,7 @@ fn judged(body: &[u8], l: &[u8; 32], mac: &[u8]) -> Judged
     let Judged::Counts(_, _) = j else {
         return Judged::NotWellFormed;
     };
-    let m = seal(l, body);
+    let m = mac::of_body(l, body);
     if same(&m, mac) {
         return j;
     }
