@@ -1,7 +1,6 @@
 pub mod V3Laws
 mod Slots
 mod Opened
-mod Sealing
 mod Verdicts
 mod Laying
 mod Writes

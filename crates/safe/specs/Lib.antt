@@ -3,4 +3,3 @@ pub mod Answers
 pub mod Calls
 pub mod Steps
 pub mod Laying
-pub mod Part

@@ -1,7 +1,6 @@
 // Laying out a file whose values have passed the early tests.
 use super::Refusal;
 use super::Written;
-use super::seal::seal;
 use file::first_marker;
 use file::marker;
 use stretch::Stretcher;
@@ -91,7 +90,7 @@ pub fn file(
     }
     let m = marker();
     lay(output, e, &m);
-    let mac = seal(l, body);
+    let mac = mac::of_body(l, body);
     lay(output, e + 16, &mac);
     Written::Done
 }

@@ -3,7 +3,6 @@ mod assemble;
 mod decrypt;
 mod open;
 mod refusals;
-mod seal;
 mod settle;
 
 ghost use mathlib.Core.Path.{_≡_};

@@ -3,7 +3,6 @@ use super::Outcome;
 use super::Reading;
 use super::Refusal;
 use super::decrypt::Keys;
-use super::seal::seal;
 use body::Judged;
 use words::slices::same;
 use words::slices::zero;
@@ -34,7 +33,7 @@ fn judged(body: &[u8], l: &[u8; 32], mac: &[u8]) -> Judged
     let Judged::Counts(_, _) = j else {
         return Judged::NotWellFormed;
     };
-    let m = seal(l, body);
+    let m = mac::of_body(l, body);
     if same(&m, mac) {
         return j;
     }

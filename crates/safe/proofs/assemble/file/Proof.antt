@@ -55,7 +55,7 @@ returns-2 c =
     let en = c .before .before .before .before .before .before .before .before .before .before .before .before .before .before .before .before .before .before .cbc-encrypt .ensures in
     laid-done (now (t .args .passphrase)) (now (t .args .salt)) (t .args .iter) K (now (t .args .l)) iv body n new _ _ _ h
     (new-is H K iv body o1 new n h (t .pre .whole) lo e1 ln en) (new-long H K iv body o1 new n h (t .pre .whole) lo e1 ln en) (head-is-long H K iv body o1 new n h (t .pre .whole) lo e1 ln en) (c .before .before .before .before .before .before .before .before .before .before .before .before .before .first-marker .ensures) (part-is H K iv body o1 new n h (t .pre .whole) lo e1 ln en _ refl) (c .before .before .before .before .before .before .before .before .before .before .before .before .if1 .left)
-    (c .before .before .before .before .before .before .before .before .before .before .before .marker .ensures) (c .before .before .before .before .before .seal .ensures) (ap length (c .before .before .before .before .before .seal .ensures) ∙ hmac-sized _ _ .long) (body-laid H K iv body o1 new n h (t .pre .whole) lo e1 ln en _ refl) (c .before .before .before .before .before .before .before .before .lay .ensures) (c .before .before .lay2 .ensures)
+    (c .before .before .before .before .before .before .before .before .before .before .before .marker .ensures) (c .before .before .before .before .before .of-body .ensures) (ap length (c .before .before .before .before .before .of-body .ensures) ∙ hmac-sized _ _ .long) (body-laid H K iv body o1 new n h (t .pre .whole) lo e1 ln en _ refl) (c .before .before .before .before .before .before .before .before .lay .ensures) (c .before .before .lay2 .ensures)
 
 pub file-spec : {M : Type 1} → statement M
 file-spec =

@@ -14,15 +14,12 @@ returns : tie.Need-returns
 unfolding verdictOf
 returns c = rw (judged-not (c .before .before .before .before .before .args .body .now) (sym (c .before .before .judge .ensures) ∙ c .enum-told2 .given .1))
 
-seal-requires : tie.Need-seal-requires
-seal-requires c κs = judged-counts (c .before .before .before .before .before .args .body .now) _ _ (sym (c .before .before .judge .ensures) ∙ c .enum-told .given .1)
-
 returns-2 : tie.Need-returns-2
 unfolding verdictOf judgedOf
 returns-2 c =
     let a = c .before .before .before .before .before .before .before .before .before .args in
     let well = judged-counts (a .body .now) _ _ (sym (c .before .before .before .before .before .before .judge .ensures) ∙ c .before .before .before .before .enum-told .given .1) in
-    let hmac = ap (λ (m : List ℕ). same m (a .mac .now)) (sym (c .before .before .before .seal .ensures)) ∙ sym (c .before .same .ensures) ∙ c .if1 .taken in
+    let hmac = ap (λ (m : List ℕ). same m (a .mac .now)) (sym (c .before .before .before .of-body .ensures)) ∙ sym (c .before .same .ensures) ∙ c .if1 .taken in
     c .before .before .before .before .before .before .judge .ensures ∙ rw (well, hmac)
 
 returns-3 : tie.Need-returns-3
@@ -30,7 +27,7 @@ unfolding verdictOf
 returns-3 c =
     let a = c .before .before .before .before .before .before .before .before .before .args in
     let well = judged-counts (a .body .now) _ _ (sym (c .before .before .before .before .before .before .judge .ensures) ∙ c .before .before .before .before .enum-told .given .1) in
-    let hmac = ap (λ (m : List ℕ). same m (a .mac .now)) (sym (c .before .before .before .seal .ensures)) ∙ sym (c .before .same .ensures) ∙ c .if1 .left in
+    let hmac = ap (λ (m : List ℕ). same m (a .mac .now)) (sym (c .before .before .before .of-body .ensures)) ∙ sym (c .before .same .ensures) ∙ c .if1 .left in
     rw (well, hmac)
 
 pub judged-spec : {M : Type 1} → statement M
@@ -41,7 +38,7 @@ judged-spec =
     (λ c. search needs)
     (λ c. search needs)
     returns
-    seal-requires
+    (λ c κs. search needs)
     (λ c. search needs)
     (λ c κs. search needs)
     returns-2
