@@ -1,9 +1,9 @@
--- Parts laid into a slice, and its front zeroed: what stands where, by what is taken and dropped.
+-- Parts laid into a slice: what stands where, by what is taken and dropped.
 use Prim.Native.Nat.{ℕ, _+_, _-_, _≤_}
 use mathlib.Core.Path.{_≡_, refl, sym, ap, ap₂, _∙_}
 use mathlib.Core.List.{List, _++_, append-assoc}
 use native.Mathlib.Omega.{arith}
-use lib.ListN.{length, take, drop, length-drop, replicate-append-replicate}
+use lib.ListN.{length, take, drop, length-drop}
 use lib.Seq.{take-at, drop-at, drop-append-add, drop-drop, length-take-le}
 use Rattle.words.specs.Slices.{zeros, copied}
 use Rattle.words.proofs.SliceLaws.{copied-over}
@@ -31,14 +31,3 @@ lay-is at out part new h e =
     ap₂ (λ (x y : List ℕ). take at out ++ (x ++ y))
     (e ∙ ap (λ (n : ℕ). copied (take n (drop at out)) part) k ∙ copied-over (take (length part) (drop at out)) part l)
     (ap (λ (n : ℕ). drop n (drop at out)) k ∙ drop-drop (length part) at out)
-
--- the front of a memory zeroed, with zeros behind it
-pub blanked : (w ws z : List ℕ) (n : ℕ) → length w ≡ n → n ≤ length ws → ws ≡ zeros (length ws) → z ≡ zeros (length (take n (w ++ drop n ws)))
-    → z ++ drop n (w ++ drop n ws) ≡ zeros (length ws)
-blanked w ws z n lw h zs e =
-    let whole : n + (length ws - n) ≡ length ws = omega arith in
-    ap₂ (λ (x y : List ℕ). x ++ y)
-    (e ∙ ap (λ (x : List ℕ). zeros (length x)) (take-at w (drop n ws) n lw) ∙ ap zeros lw)
-    (drop-at w (drop n ws) n lw ∙ ap (drop n) zs ∙ drop-same 0 n (length ws) h)
-    ∙ replicate-append-replicate n (length ws - n) 0
-    ∙ ap zeros whole
