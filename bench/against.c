@@ -1,7 +1,7 @@
 /*
  * This tree's library beside another's, in one run: SHA-256 and stretching; the HMAC over the
  * fields of a body, judging it, reading and writing it. Both are linked, each under names of its
- * own (the Makefile's `against`); `seal` is a function inside the library, and not part of its
+ * own (the Makefile's `against`); the HMAC's is a function inside the library, and not part of its
  * face.
  */
 #include <stdio.h>
@@ -17,7 +17,7 @@ struct slice {
 };
 
 #define SIDE(side)                                                                                 \
-    void side##_seal(uint8_t out[32], const uint8_t l[32], const struct slice *body);              \
+    void side##_mac(uint8_t out[32], const uint8_t l[32], const struct slice *body);              \
     uint32_t side##_talc_judge(const uint8_t *body, size_t n, uint8_t answer[16]);                 \
     uint32_t side##_talc_read(const uint8_t *file, size_t n, const uint8_t *p, size_t p_len,       \
                               uint32_t ceiling, uint8_t *space, size_t room, uint8_t out[96]);     \
@@ -38,12 +38,12 @@ struct slice {
     {                                                                                              \
         side##_probe_stretch(message, 8, salt, CHAIN, out);                                        \
     }                                                                                              \
-    static void side##_seals(uint8_t out[32])                                                      \
+    static void side##_macs(uint8_t out[32])                                                      \
     {                                                                                              \
         uint8_t l[32];                                                                             \
         key_number(l, 2);                                                                          \
         struct slice all = {body, body_len};                                                       \
-        side##_seal(out, l, &all);                                                                 \
+        side##_mac(out, l, &all);                                                                 \
         if (memcmp(out, safe + body_len + 168, 32) != 0)                                           \
             stop("the HMAC differs from the safe's");                                              \
     }                                                                                              \
@@ -80,7 +80,7 @@ SIDE(there)
 static void hold(const char *what, size_t notes, int small)
 {
     struct contest contests[] = {
-        {"HMAC over all fields", "MB/s", 0, 41, NULL, BOTH(seals)},
+        {"HMAC over all fields", "MB/s", 0, 41, NULL, BOTH(macs)},
         {"Judging", "MB/s", 0, 21, NULL, BOTH(judges)},
         {"Reading, ITER 2,048", "MB/s", 0, 5, NULL, BOTH(reads)},
         {"Writing, ITER 2,048", "MB/s", 0, 5, NULL, BOTH(writes)},

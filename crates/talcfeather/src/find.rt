@@ -5,7 +5,7 @@ use fields::Value;
 ghost use mathlib.Core.Path.{_≡_};
 ghost use lib.ListN.{length};
 ghost use Rattle.body.specs.Find.{findNumber};
-ghost use Rattle.talcfeather.specs.Find.{findNumbers, soughtOf, TalcFind};
+ghost use Rattle.talcfeather.specs.Find.{findNumbers, Seeks, TalcFind};
 
 fn find_numbers(s: Sought) -> [u64; 3]
     ensures { λ r. ⌜ r ≡ findNumbers s ⌝ }
@@ -30,7 +30,7 @@ fn find_number(s: Sought) -> u32
 // The UUID is read as a record's field of type 01 is; 16 bytes are always one.
 fn sought(body: &[u8], uuid: &[u8]) -> Sought
     requires { ⌜ length (now uuid) ≡ 16 ⌝ }
-    ensures { λ r. ⌜ r ≡ soughtOf (now (body .entry)) (now (uuid .entry)) ⌝ }
+    ensures { λ r. ⌜ Seeks (now (body .entry)) (now (uuid .entry)) r ⌝ }
 {
     let Value::Uuid(low, high) = fields::value::value_of(true, 0x01, uuid) else {
         return Sought::Nowhere;

@@ -11,8 +11,10 @@ returns : tie.Need-returns
 returns c =
     let said = c .before .before .before .before .before .sought .ensures in
     record {
-      is-number = c .find-number .ensures ∙ ap findNumber said;
-      is-answer = c .before .store .ensures ∙ ap inBytes (c .before .before .before .before .find-numbers .ensures ∙ ap findNumbers said);
+      bytes = said .bytes;
+      sized = said .sized;
+      is-number = c .find-number .ensures ∙ ap findNumber (said .is-sought);
+      is-answer = c .before .store .ensures ∙ ap inBytes (c .before .before .before .before .find-numbers .ensures ∙ ap findNumbers (said .is-sought));
     }
 
 pub talc-find-spec : {M : Type 1} → statement M
