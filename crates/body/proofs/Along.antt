@@ -12,6 +12,7 @@ use lib.ListN.{length, length-append}
 use types.Run.{OneOf}
 use denote.Enum.Declared.{tagOf}
 use borrow.Author.Tests.{le-leb, leb-true, eq-eqb, eqb-true, ne-eqb}
+use Rattle.words.proofs.EachLaws.{both}
 use Rattle.fields.specs.Stored.{Stored, bytesOf, roomOf}
 use Rattle.fields.specs.Walk.{walkOf, lenAt, kindAt, endWithData, fieldAt, after}
 use Rattle.fields.specs.declared.Cursor.{Cursor}
@@ -23,7 +24,6 @@ use Rattle.fields.proofs.Outcomes.{taken, took, forward}
 use Rattle.body.specs.Division.{joined}
 use Rattle.body.specs.Decision.{storedAt, fits, fieldsFrom, walkable, takenFrom, exactFrom, endsEmpty}
 use Rattle.body.proofs.Division.{from-fits, from-none, stored-long, data-long}
-use Rattle.body.proofs.Tests.{both}
 
 -- the walk takes a field
 module _ (s : List ℕ) (c : Cursor) (f : Field) (d : Cursor) (e : walkOf s c ≡ Took f d) where

@@ -7,10 +7,11 @@ use native.Mathlib.Omega.{arith}
 use lib.Dec.{ltb}
 use lib.ListN.{length, getD, drop, replicate}
 use borrow.Author.Tests.{ltb-true}
+use Rattle.words.specs.Each.{Each}
+use Rattle.words.specs.Members.{to}
 use Rattle.words.specs.Numbers.{numberLow, bytesLow, Bytes, none, more}
 use Rattle.fields.specs.Stored.{Stored, stored, fillOf}
-use Rattle.fields.specs.Value.{to}
-use Rattle.body.specs.Division.{Each, Whole, joined}
+use Rattle.body.specs.Division.{Whole, joined}
 use Rattle.body.specs.Sections.{runs, firstData}
 use Rattle.body.specs.WellFormed.{WellFormed}
 use Rattle.body.specs.Decision.{divided, walkable, goodHeader, goodRecord, goodRuns, wellFormed, coveredOf, judgedOf}

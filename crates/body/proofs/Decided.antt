@@ -9,33 +9,16 @@ use lib.Dec.{eqb, leb}
 use lib.ListN.{length, getD, length-append}
 use lib.Seq.{take-at}
 use borrow.Author.Tests.{eqb-true, eq-eqb}
+use Rattle.words.specs.Each.{Each}
+use Rattle.words.proofs.EachLaws.{both, and, equal, at-most, each, where-equal}
 use Rattle.words.specs.Numbers.{Bytes}
 use Rattle.fields.specs.Stored.{Stored}
 use Rattle.fields.specs.Walk.{endWithData}
-use Rattle.body.specs.Division.{Each}
 use Rattle.body.specs.Sections.{runs, count, covered}
 use Rattle.body.specs.WellFormed.{VersionFirst, onceInHeader, One, GoodRecord, WellFormed}
-use Rattle.body.specs.Decision.{
-  fieldsOf,
-  walkable,
-  exactFrom,
-  endsEmpty,
-  versionFirst,
-  one,
-  goodHeader,
-  goodRecord,
-  none,
-  goodRuns,
-  wellFormed,
-  headerIn,
-  recordsIn,
-  headersOf,
-  recordsOf,
-  coveredOf,
-}
+use Rattle.body.specs.Decision.{fieldsOf, walkable, exactFrom, endsEmpty, versionFirst, one, goodHeader, goodRecord, none, goodRuns, wellFormed, headerIn, recordsIn, headersOf, recordsOf, coveredOf}
 use Rattle.body.proofs.Division.{divides, division, exact}
 use Rattle.body.proofs.Along.{walkable-all}
-use Rattle.body.proofs.Tests.{both, and, equal, at-most, each, where-equal}
 
 -- every END has length 0
 empty-end : (f : Stored) → (not (endWithData (f .kind) (length (f .content))) ≡ true) ↔ (f .kind ≡ 0xff → length (f .content) ≡ 0)

@@ -10,6 +10,7 @@ use lib.Dec.{lit<}
 use lib.ListN.{length, take, drop, length-append, length-take, length-drop, take-append-drop}
 use lib.Seq.{drop-cons, drop-drop, drop-length, take-at}
 use borrow.Author.Tests.{leb-true, le-leb, lt-leb, eqb-true, eq-eqb}
+use Rattle.words.specs.Each.{Each}
 use Rattle.words.specs.Numbers.{bytesLow, Bytes}
 use Rattle.words.proofs.ByteLaws.{bytes-take, bytes-drop, byte-at}
 use Rattle.words.proofs.NumberLaws.{bytes-number, number-fits}
@@ -17,7 +18,7 @@ use Rattle.fields.specs.Stored.{Stored, bytesOf, roomOf, fillOf}
 use Rattle.fields.specs.Walk.{lenAt, kindAt, dataAt}
 use Rattle.fields.proofs.Outcomes.{room-fill}
 use Rattle.fields.proofs.Back.{bytes-long, len-back, kind-back, data-back, fill-back}
-use Rattle.body.specs.Division.{Each, Whole, joined, Divides}
+use Rattle.body.specs.Division.{Whole, joined, Divides}
 use Rattle.body.specs.Decision.{storedAt, fits, divided, fieldsFrom, fieldsOf, exactFrom}
 
 no-fit : (s : List ℕ) (p : ℕ) → length s ≤ p → fits s p ≡ false

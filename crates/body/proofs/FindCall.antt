@@ -10,6 +10,8 @@ use lib.Dec.{eqb}
 use lib.ListN.{length, take, drop, length-take, length-drop, take-append-drop}
 use lib.Seq.{take-all}
 use borrow.Author.Tests.{eqb-true, eq-eqb}
+use Rattle.words.specs.Each.{Each}
+use Rattle.words.proofs.EachLaws.{both, each-middle, each-front}
 use Rattle.words.specs.Numbers.{numberLow, bytesLow, Bytes, none, Sized}
 use Rattle.words.proofs.ByteLaws.{bytes-take, bytes-drop}
 use Rattle.words.proofs.NumberLaws.{bytes-number}
@@ -18,7 +20,7 @@ use Rattle.fields.specs.Value.{valueOf}
 use Rattle.fields.specs.Walk.{walkOf, fieldAt, after, kindAt, lenAt, dataAt}
 use Rattle.fields.specs.declared.Field.{Field}
 use Rattle.fields.specs.declared.Walked.the-variants.{Took}
-use Rattle.body.specs.Division.{Each, Whole, joined}
+use Rattle.body.specs.Division.{Whole, joined}
 use Rattle.body.specs.Sections.{isEnd, push, runs, count, firstData}
 use Rattle.body.specs.WellFormed.{GoodRecord, WellFormed}
 use Rattle.body.specs.Decision.{storedAt, fieldsOf, takenFrom, wellFormed, headerIn, recordsIn}
@@ -27,7 +29,6 @@ use Rattle.body.specs.Find.{isUuid, has, firstWith, findOf, placeBehind,
 use Rattle.body.specs.declared.Sought.{Sought}
 use Rattle.body.specs.declared.Sought.the-variants.{At, Nowhere, NotWellFormed}
 use Rattle.body.specs.declared.Found.{Found}
-use Rattle.body.proofs.Tests.{both}
 use Rattle.body.proofs.Decided.{well-formed, decides, header-is, records-are}
 use Rattle.body.proofs.Answers.{find-is}
 use Rattle.body.proofs.Sectioned.{inside, Next, taken-next, Left, Turn, left-start, left-turn}
@@ -150,13 +151,6 @@ runs-whole (f ∷ fs) w = by (isEnd f) (runs fs) (runs-whole fs (w .1))
     by false (u ∷ us) h = ((w .0, h .0), h .1)
 
 -- what holds of each of a list holds of one in its middle
-each-middle : {A : Type 0} (P : A → Type 0) (a : List A) (x : A) (b : List A) → Each P (a ++ (x ∷ b)) → P x
-each-middle P [] x b h = h .0
-each-middle P (y ∷ a) x b h = each-middle P a x b (h .1)
-
-each-front : {A : Type 0} (P : A → Type 0) (a b : List A) → Each P (a ++ b) → Each P a
-each-front P [] b h = tt
-each-front P (y ∷ a) b h = (h .0, each-front P a b (h .1))
 
 -- the walk behind the sections before it
 left-behind : (s : List ℕ) (p : ℕ) (before : List (List Stored)) (u : List Stored) (us : List (List Stored)) → Left s p (before ++ (u ∷ us)) → Left s (p + placeBehind before) (u ∷ us)

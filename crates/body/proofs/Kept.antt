@@ -9,31 +9,17 @@ use native.Mathlib.Omega.{arith}
 use lib.Dec.{eqb, leb}
 use lib.ListN.{length, length-take}
 use borrow.Author.Tests.{eqb-true, eq-eqb}
+use Rattle.words.specs.Each.{Each, allIn}
+use Rattle.words.specs.Members.{among}
 use Rattle.words.specs.Numbers.{Bytes, more}
 use Rattle.words.proofs.ByteLaws.{bytes-append}
 use Rattle.words.proofs.NumberLaws.{bytes-sized}
 use Rattle.fields.specs.Stored.{Stored}
 use Rattle.fields.specs.Walk.{endWithData}
-use Rattle.fields.specs.Value.{among}
-use Rattle.body.specs.Division.{Each, Whole, joined, Divides}
+use Rattle.body.specs.Division.{Whole, joined, Divides}
 use Rattle.body.specs.Sections.{isEnd, push, runs, count, covered}
 use Rattle.body.specs.WellFormed.{onceInHeader, WellFormed}
-use Rattle.body.specs.Decision.{
-  all,
-  walkable,
-  endsEmpty,
-  versionFirst,
-  one,
-  none,
-  goodHeader,
-  goodRecord,
-  goodRuns,
-  wellFormed,
-  headerIn,
-  recordsIn,
-  coveredOf,
-  judgedOf,
-}
+use Rattle.body.specs.Decision.{walkable, endsEmpty, versionFirst, one, none, goodHeader, goodRecord, goodRuns, wellFormed, headerIn, recordsIn, coveredOf, judgedOf}
 use Rattle.body.specs.declared.Judged.{Judged}
 use Rattle.body.specs.declared.Judged.the-variants.{Counts, NotWellFormed}
 use Rattle.body.proofs.Division.{division, exact}
@@ -63,7 +49,7 @@ pub data Kept : Bool → List Stored → List Stored → Type 0 where
 
 -- the fields of type k are of a length that fits
 abbrev sizes : ℕ → (ℕ → Bool) → List Stored → Bool
-sizes k t fs = all (λ f. cond (eqb (f .kind) k) (t (length (f .content))) true) fs
+sizes k t fs = allIn (λ f. cond (eqb (f .kind) k) (t (length (f .content))) true) fs
 
 -- two sections that no clause tells apart
 record Like (r : Bool) (u v : List Stored) : Type 0 where
@@ -111,7 +97,7 @@ like-good false u v h = go onceInHeader (h .numbers)
     or true b e = refl
     or false b e = e
 
-    go : (ts : List ℕ) → ((k : ℕ) → among k ts ≡ true → count k u ≡ count k v) → all (λ k. leb (count k u) 1) ts ≡ all (λ k. leb (count k v) 1) ts
+    go : (ts : List ℕ) → ((k : ℕ) → among k ts ≡ true → count k u ≡ count k v) → allIn (λ k. leb (count k u) 1) ts ≡ allIn (λ k. leb (count k v) 1) ts
     go [] e = refl
     go (t ∷ ts) e = ap₂ (λ (n : ℕ) (b : Bool). leb n 1 && b) (e t (rw (eq-eqb t t refl))) (go ts (λ k m. e k (or (eqb k t) (among k ts) m)))
 

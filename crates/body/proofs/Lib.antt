@@ -1,6 +1,5 @@
 pub mod Division
 pub mod Visits
-mod Tests
 pub mod Decided
 mod Sums
 mod OnceTypes

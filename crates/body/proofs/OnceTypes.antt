@@ -3,7 +3,7 @@ use Prim.Native.Nat.{ℕ, _<_}
 use mathlib.Core.Path.{_≡_, refl}
 use mathlib.Core.Bool.{Bool, true, false, cond, _||_, Bool·beq}
 use lib.Dec.{eqb, ltb}
-use Rattle.fields.specs.Value.{among}
+use Rattle.words.specs.Members.{among}
 use Rattle.words.proofs.Every.{every}
 use Rattle.body.specs.Tally.{once}
 use Rattle.body.proofs.Sums.{alike}

@@ -11,6 +11,7 @@ use lib.Dec.{eqb, ltb}
 use lib.ListN.{length, take, drop, length-append}
 use lib.Seq.{take-at}
 use borrow.Author.Tests.{eqb-true, ltb-true, ltb-false}
+use Rattle.words.proofs.EachLaws.{both}
 use Rattle.fields.specs.Stored.{Stored, bytesOf, roomOf}
 use Rattle.fields.specs.Walk.{walkOf, lenAt, endWithData, fieldAt, after}
 use Rattle.fields.specs.declared.Cursor.{Cursor}
@@ -24,7 +25,6 @@ use Rattle.body.specs.Decision.{storedAt, fieldsOf, takenFrom, exactFrom
 use Rattle.body.specs.RecordAt.{beforeEnd, behindEnd, spotOf, recordAt, contentAt}
 use Rattle.body.specs.declared.records.Spot.the-variants.{At, Absent}
 use Rattle.body.proofs.Division.{stored-long, data-long}
-use Rattle.body.proofs.Tests.{both}
 use Rattle.body.proofs.Decided.{sections-in}
 use Rattle.body.proofs.Verdict.{some-run}
 use Rattle.body.proofs.Along.{taken-took, taken-else, taken-stop, taken-fits, taken-no-data, taken-length, next-place, walkable-all}

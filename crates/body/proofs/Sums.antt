@@ -9,21 +9,22 @@ use lib.Dec.{eqb, leb, ltb, lit<, T}
 use lib.ListN.{length, getD, set, getD-replicate, length-set}
 use lib.Seq.{getD-set-same, getD-set-other}
 use borrow.Author.Tests.{eqb-true, eqb-false, lt-leb, lt-ltb, ne-eqb}
+use Rattle.words.specs.Each.{allIn}
+use Rattle.words.specs.Members.{among}
 use Rattle.fields.specs.Stored.{Stored}
-use Rattle.fields.specs.Value.{among}
 use Rattle.body.specs.Sections.{count}
 use Rattle.body.specs.WellFormed.{onceInHeader}
-use Rattle.body.specs.Decision.{all, none, goodHeader, goodRecord}
+use Rattle.body.specs.Decision.{none, goodHeader, goodRecord}
 use Rattle.body.specs.Tally.{once, lengthFits, emptySection, noted, passes}
 use Rattle.body.specs.declared.tally.Section.{Section}
 
 -- no type of the list more than once
 abbrev atMostOnce : List ℕ → List Stored → Bool
-atMostOnce ts fs = all (λ t. leb (count t fs) 1) ts
+atMostOnce ts fs = allIn (λ t. leb (count t fs) 1) ts
 
 -- the lengths that the section asks for
 abbrev lengths : Bool → List Stored → Bool
-lengths r fs = all (λ f. lengthFits r (f .kind) (length (f .content))) fs
+lengths r fs = allIn (λ f. lengthFits r (f .kind) (length (f .content))) fs
 
 -- the section has the fields cur so far; b: what came before it is right
 pub record Sums (r : Bool) (cur : List Stored) (b : Bool) (x : Section) : Type 0 where
@@ -39,9 +40,9 @@ count-last k (g ∷ cur) f =
     ap (_+_ (cond (eqb (g .kind) k) 1 0)) (count-last k cur f)
     ∙ sym (add-assoc (cond (eqb (g .kind) k) 1 0) (count k cur) (cond (eqb (f .kind) k) 1 0))
 
-all-last : (t : Stored → Bool) (cur : List Stored) (f : Stored) → all t (cur ++ (f ∷ [])) ≡ t f && all t cur
+all-last : (t : Stored → Bool) (cur : List Stored) (f : Stored) → allIn t (cur ++ (f ∷ [])) ≡ t f && allIn t cur
 all-last t [] f = refl
-all-last t (g ∷ cur) f = rw (all-last t cur f) (swap (t g) (t f) (all t cur))
+all-last t (g ∷ cur) f = rw (all-last t cur f) (swap (t g) (t f) (allIn t cur))
   where
     swap : (a b c : Bool) → a && (b && c) ≡ b && (a && c)
     swap true b c = refl
@@ -159,7 +160,7 @@ same false = refl
 
 -- the length of a field of type k is right
 abbrev sizes : ℕ → (ℕ → Bool) → List Stored → Bool
-sizes k size fs = all (λ f. cond (eqb (f .kind) k) (size (length (f .content))) true) fs
+sizes k size fs = allIn (λ f. cond (eqb (f .kind) k) (size (length (f .content))) true) fs
 
 -- a number is one of two at most
 not-both : (k i j : ℕ) → (i ≡ j → ⊥) → eqb k i ≡ true → eqb k j ≡ true → ⊥

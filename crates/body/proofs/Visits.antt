@@ -7,6 +7,7 @@ use native.Mathlib.Omega.{arith}
 use lib.Dec.{eqb}
 use lib.ListN.{length, length-append}
 use borrow.Author.Tests.{eq-eqb, eqb-true}
+use Rattle.words.specs.Each.{Each}
 use Rattle.fields.specs.Stored.{Stored, bytesOf, roomOf}
 use Rattle.fields.specs.Walk.{walkOf, start, endWithData}
 use Rattle.fields.specs.declared.Cursor.{Cursor}
@@ -14,7 +15,7 @@ use Rattle.fields.specs.declared.Field.{Field}
 use Rattle.fields.specs.declared.Walked.the-variants.{Took, Finished}
 use Rattle.fields.proofs.Outcomes.{at-end}
 use Rattle.fields.proofs.Back.{shown, walk-stored}
-use Rattle.body.specs.Division.{Each, Whole, joined, Divides}
+use Rattle.body.specs.Division.{Whole, joined, Divides}
 use Rattle.body.proofs.Division.{whole-fill}
 
 -- the walk from a cursor on: the fields that it takes, then the end

@@ -5,6 +5,7 @@ use mathlib.Core.Bool.{Bool, true, false, cond, not, _&&_}
 use mathlib.Core.List.{List, [], _∷_}
 use lib.Dec.{leb, eqb}
 use lib.ListN.{length, getD, take, drop}
+use Rattle.words.specs.Each.{allIn}
 use Rattle.fields.specs.Stored.{Stored, roomOf, fillOf}
 use Rattle.fields.specs.Walk.{lenAt, kindAt, dataAt, endWithData}
 use Rattle.body.specs.Division.{joined}
@@ -46,27 +47,22 @@ walkable (f ∷ fs) = cond (endWithData (f .kind) (length (f .content))) [] (f �
 abbrev pub takenFrom : List ℕ → ℕ → List Stored
 takenFrom s p = cond (eqb (p % 16) 0) (walkable (fieldsFrom s p)) []
 
--- a test that each element passes
-abbrev pub all : {A : Type 0} → (A → Bool) → List A → Bool
-all t [] = true
-all t (a ∷ l) = t a && all t l
-
 -- from place p on the fields reach the end of s
 abbrev pub exactFrom : List ℕ → ℕ → Bool
 exactFrom s p = eqb (p + length (joined (fieldsFrom s p))) (length s)
 
 abbrev pub endsEmpty : List Stored → Bool
-endsEmpty fs = all (λ f. not (endWithData (f .kind) (length (f .content)))) fs
+endsEmpty fs = allIn (λ f. not (endWithData (f .kind) (length (f .content)))) fs
 
 abbrev pub versionFirst : List Stored → Bool
 versionFirst [] = false
 versionFirst (f ∷ fs) = eqb (f .kind) 0x00 && (eqb (length (f .content)) 2 && eqb (getD (f .content) 1 0) 0x03)
 
 abbrev pub one : ℕ → (ℕ → Bool) → List Stored → Bool
-one k size fs = eqb (count k fs) 1 && all (λ f. cond (eqb (f .kind) k) (size (length (f .content))) true) fs
+one k size fs = eqb (count k fs) 1 && allIn (λ f. cond (eqb (f .kind) k) (size (length (f .content))) true) fs
 
 unfoldable pub goodHeader : List Stored → Bool
-goodHeader fs = all (λ k. leb (count k fs) 1) onceInHeader
+goodHeader fs = allIn (λ k. leb (count k fs) 1) onceInHeader
 
 unfoldable pub goodRecord : List Stored → Bool
 goodRecord fs = one 0x01 (λ n. eqb n 16) fs && (one 0x03 (λ n. leb 1 n) fs && one 0x06 (λ n. leb 1 n) fs)

@@ -3,13 +3,9 @@ use Prim.Native.Nat.{ℕ, _^_, _<_}
 use mathlib.Core.Path.{_≡_}
 use mathlib.Core.List.{List, [], _∷_, _++_}
 use lib.ListN.{length}
+use Rattle.words.specs.Each.{Each}
 use Rattle.words.specs.Numbers.{Bytes}
 use Rattle.fields.specs.Stored.{Stored, bytesOf, roomOf}
-
--- P holds of each element
-abbrev pub Each : {A : Type 0} → (A → Type 0) → List A → Type 0
-Each P [] = Unit
-Each P (a ∷ l) = P a × Each P l
 
 -- a field as a body can hold it: type and data are bytes, the length fits its 4 bytes, and with its fill the field takes the smallest whole
 -- number of blocks that holds 5 + length bytes; the fill may be any bytes

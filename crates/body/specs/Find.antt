@@ -5,13 +5,14 @@ use mathlib.Core.Bool.{Bool, true, cond, _&&_}
 use mathlib.Core.List.{List, [], _∷_, _++_}
 use lib.Dec.{eqb}
 use lib.ListN.{length, take, drop}
+use Rattle.words.specs.Each.{Each}
 use Rattle.words.specs.Numbers.{numberLow}
 use Rattle.fields.specs.Stored.{Stored}
 use Rattle.fields.specs.Value.{valueOf}
 use Rattle.fields.specs.Walk.{walkOf}
 use Rattle.fields.specs.declared.Cursor.{Cursor}
 use Rattle.fields.specs.declared.Walked.the-variants.{Took}
-use Rattle.body.specs.Division.{Each, joined}
+use Rattle.body.specs.Division.{joined}
 use Rattle.body.specs.Sections.{runs, firstData}
 use Rattle.body.specs.WellFormed.{WellFormed}
 use Rattle.body.specs.Decision.{fieldsOf, wellFormed, headerIn, recordsIn}

@@ -4,7 +4,7 @@ use mathlib.Core.Bool.{Bool, true, false, cond, not, _&&_}
 use mathlib.Core.List.{List, [], _∷_}
 use lib.Dec.{eqb, leb}
 use lib.ListN.{getD, set, replicate}
-use Rattle.fields.specs.Value.{among}
+use Rattle.words.specs.Members.{among}
 use Rattle.body.specs.WellFormed.{onceInHeader}
 use Rattle.body.specs.Sections.{runs}
 use Rattle.body.specs.Decision.{fieldsOf, exactFrom, endsEmpty, goodRuns, headersOf, recordsOf}

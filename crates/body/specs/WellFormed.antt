@@ -3,9 +3,10 @@ use Prim.Native.Nat.{ℕ, _≤_}
 use mathlib.Core.Path.{_≡_}
 use mathlib.Core.List.{List, [], _∷_, _++_}
 use lib.ListN.{length, getD}
+use Rattle.words.specs.Each.{Each}
+use Rattle.words.specs.Members.{to}
 use Rattle.fields.specs.Stored.{Stored}
-use Rattle.fields.specs.Value.{to}
-use Rattle.body.specs.Division.{Each, Divides}
+use Rattle.body.specs.Division.{Divides}
 use Rattle.body.specs.Sections.{runs, count}
 
 -- the first field is Version (00), length 2, second byte 03

@@ -1,6 +1,6 @@
 // What is kept of the section that a pass over a body is in, the header or a record.
 ghost use mathlib.Core.Path.{_≡_};
-ghost use Rattle.fields.specs.Value.{among};
+ghost use Rattle.words.specs.Members.{among};
 ghost use Rattle.body.specs.Tally.{once, lengthFits, emptySection, stillFine, noted, passes, stepped, headerField, recordEnd};
 
 // Which of the types that may occur once were seen (13 is the highest), whether all is right so far, and whether the section has a field.

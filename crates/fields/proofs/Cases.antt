@@ -4,10 +4,11 @@ use mathlib.Core.Path.{_≡_, refl}
 use mathlib.Core.Bool.{Bool, true, false}
 use mathlib.Core.List.{List, [], _∷_, _++_, map}
 use lib.ListN.{length, replicate}
+use Rattle.words.specs.Members.{to}
 use Rattle.words.specs.Numbers.{numberLow, bytesLow}
 use Rattle.text.specs.Decision.{endsWhole}
 use Rattle.fields.specs.Stored.{stored}
-use Rattle.fields.specs.Value.{to, headerShape, recordShape, valueOf}
+use Rattle.fields.specs.Value.{headerShape, recordShape, valueOf}
 use Rattle.fields.specs.Walk.{walkOf}
 use Rattle.fields.specs.Append.{appendOf, bufferAfter}
 use Rattle.fields.specs.declared.Cursor.{Cursor}

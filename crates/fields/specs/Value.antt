@@ -1,29 +1,16 @@
 -- What the data of a field stands for (document 01, the list of values).
-use Prim.Native.Nat.{ℕ, zero, suc, _-_}
-use mathlib.Core.Bool.{Bool, false, cond, not, _||_}
+use Prim.Native.Nat.{ℕ}
+use mathlib.Core.Bool.{Bool, cond, not}
 use mathlib.Core.List.{List, [], _∷_, _++_}
 use lib.Dec.{eqb}
 use lib.ListN.{length, getD, take, drop}
+use Rattle.words.specs.Members.{among, to}
 use Rattle.words.specs.Numbers.{numberLow}
 use Rattle.text.specs.Decision.{textOf}
 use Rattle.fields.specs.declared.value.Shape.{Shape}
 use Rattle.fields.specs.declared.value.Shape.the-variants as Shape
 use Rattle.fields.specs.declared.value.Value.{Value}
 use Rattle.fields.specs.declared.value.Value.the-variants as Value
-
--- k is in the list
-abbrev pub among : ℕ → List ℕ → Bool
-among k [] = false
-among k (t ∷ ts) = eqb k t || among k ts
-
--- the n numbers from a on
-abbrev pub counted : ℕ → ℕ → List ℕ
-counted a zero = []
-counted a (suc n) = a ∷ counted (suc a) n
-
--- the numbers a to b
-abbrev pub to : ℕ → ℕ → List ℕ
-to a b = counted a (suc b - a)
 
 -- the types of each value: in the header, and in a record
 abbrev pub headerTypes : Shape → List ℕ

@@ -7,3 +7,4 @@ pub mod Every
 pub mod Places
 pub mod HexLaws
 pub mod Tables
+pub mod EachLaws

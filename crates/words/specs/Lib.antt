@@ -4,3 +4,5 @@ pub mod Xor
 pub mod Slices
 pub mod Hex
 pub mod Table
+pub mod Each
+pub mod Members

@@ -3,11 +3,10 @@ use Prim.Native.Nat.{ℕ, _≤_}
 use mathlib.Core.Path.{_≡_, refl}
 use mathlib.Core.Logic.{_↔_}
 use mathlib.Core.Bool.{Bool, true, false, cond, _&&_, false≢true}
-use mathlib.Core.List.{List, [], _∷_}
+use mathlib.Core.List.{List, [], _∷_, _++_}
 use lib.Dec.{eqb, leb}
 use borrow.Author.Tests.{eqb-true, eq-eqb, eqb-false, leb-true, le-leb}
-use Rattle.body.specs.Division.{Each}
-use Rattle.body.specs.Decision.{all}
+use Rattle.words.specs.Each.{Each, allIn}
 
 pub both : (a b : Bool) → (a && b) ≡ true → (a ≡ true) × (b ≡ true)
 both true b h = (refl, h)
@@ -22,11 +21,11 @@ equal a b = (eqb-true a b, eq-eqb a b)
 pub at-most : (a b : ℕ) → (leb a b ≡ true) ↔ (a ≤ b)
 at-most a b = (leb-true a b, le-leb a b)
 
-pub each : {A : Type 0} (t : A → Bool) (P : A → Type 0) → ((a : A) → (t a ≡ true) ↔ P a) → (l : List A) → (all t l ≡ true) ↔ Each P l
+pub each : {A : Type 0} (t : A → Bool) (P : A → Type 0) → ((a : A) → (t a ≡ true) ↔ P a) → (l : List A) → (allIn t l ≡ true) ↔ Each P l
 each t P k [] = (λ h. tt, λ h. refl)
 each t P k (a ∷ l) =
     let r = each t P k l in
-    (λ h. let x = both (t a) (all t l) h in (k a .0 (x .0), r .0 (x .1)), λ h. and (t a) (all t l) (k a .1 (h .0)) (r .1 (h .1)))
+    (λ h. let x = both (t a) (allIn t l) h in (k a .0 (x .0), r .0 (x .1)), λ h. and (t a) (allIn t l) (k a .1 (h .0)) (r .1 (h .1)))
 
 -- if a is b, then a further test
 pub where-equal : (a b : ℕ) (t : Bool) (P : Type 0) → (t ≡ true) ↔ P → (cond (eqb a b) t true ≡ true) ↔ (a ≡ b → P)
@@ -39,3 +38,12 @@ where-equal a b t P k = (forth (eqb a b) refl, λ h. back (eqb a b) refl h)
     back : (c : Bool) → eqb a b ≡ c → (a ≡ b → P) → cond c t true ≡ true
     back true e h = k .1 (h (eqb-true a b e))
     back false e h = refl
+
+-- of a list in parts
+pub each-middle : {A : Type 0} (P : A → Type 0) (a : List A) (x : A) (b : List A) → Each P (a ++ (x ∷ b)) → P x
+each-middle P [] x b h = h .0
+each-middle P (y ∷ a) x b h = each-middle P a x b (h .1)
+
+pub each-front : {A : Type 0} (P : A → Type 0) (a b : List A) → Each P (a ++ b) → Each P a
+each-front P [] b h = tt
+each-front P (y ∷ a) b h = (h .0, each-front P a b (h .1))
