@@ -1,8 +1,8 @@
 -- What the answer of a call of `find` says of the 16 bytes that are sought: the search over the records stops at the first that has them, by recursion on the records; two halves
 -- say 16 bytes; and where the sections before a record are passed, the walk stands at its first field.
-use Prim.Native.Nat.{ℕ, suc, _+_, _-_, _<_, _≤_}
+use Prim.Native.Nat.{ℕ, _+_}
 use mathlib.Core.Path.{_≡_, refl, sym, ap, ap₂, subst, _∙_}
-use mathlib.Core.Bool.{Bool, true, false, cond, _&&_, false≢true, true≢false}
+use mathlib.Core.Bool.{Bool, true, false, cond, false≢true, true≢false}
 use mathlib.Core.List.{List, [], _∷_, _++_}
 use native.Mathlib.Nat.{add-zero, zero-add}
 use native.Mathlib.Omega.{arith}
@@ -17,21 +17,21 @@ use Rattle.words.proofs.ByteLaws.{bytes-take, bytes-drop}
 use Rattle.words.proofs.NumberLaws.{bytes-number}
 use Rattle.fields.specs.Stored.{Stored}
 use Rattle.fields.specs.Value.{valueOf}
-use Rattle.fields.specs.Walk.{walkOf, fieldAt, after, kindAt, lenAt, dataAt}
+use Rattle.fields.specs.Walk.{walkOf, fieldAt, after, kindAt, dataAt}
 use Rattle.fields.specs.declared.Field.{Field}
 use Rattle.fields.specs.declared.Walked.the-variants.{Took}
 use Rattle.body.specs.Division.{Whole, joined}
 use Rattle.body.specs.Sections.{isEnd, push, runs, count, firstData}
 use Rattle.body.specs.WellFormed.{GoodRecord, WellFormed}
-use Rattle.body.specs.Decision.{storedAt, fieldsOf, takenFrom, wellFormed, headerIn, recordsIn}
-use Rattle.body.specs.RecordAt.{beforeEnd, recordAt}
+use Rattle.body.specs.Decision.{takenFrom, wellFormed}
+use Rattle.body.specs.RecordAt.{beforeEnd}
 use Rattle.body.specs.Find.{isUuid, has, firstWith, findOf, placeBehind, HasUuid, FoundAt, Says}
 use Rattle.body.specs.declared.Sought.{Sought}
 use Rattle.body.specs.declared.Sought.the-variants.{At, Nowhere, NotWellFormed}
 use Rattle.body.specs.declared.Found.{Found}
 use Rattle.body.proofs.Decided.{well-formed, decides, header-is, records-are}
 use Rattle.body.proofs.Answers.{find-is}
-use Rattle.body.proofs.Sectioned.{inside, Next, taken-next, Left, Turn, left-start, left-turn}
+use Rattle.body.proofs.Sectioned.{inside, Next, taken-next, Left, left-start, left-turn}
 
 -- ---- two halves say 16 bytes
 module _ (d u : List ℕ) (x : Bytes d) (y : Bytes u) where

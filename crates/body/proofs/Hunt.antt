@@ -19,10 +19,9 @@ use Rattle.fields.specs.declared.value.Value.the-variants as Value
 use Rattle.fields.proofs.value.Value as value
 use Rattle.body.specs.Division.{joined}
 use Rattle.body.specs.Sections.{runs, firstData}
-use Rattle.body.specs.Decision.{fieldsOf, takenFrom, wellFormed, headerIn, recordsIn}
-use Rattle.body.specs.RecordAt.{beforeEnd, spotOf, firstsOf, recordAt, contentAt}
+use Rattle.body.specs.Decision.{fieldsOf, wellFormed, headerIn, recordsIn}
+use Rattle.body.specs.RecordAt.{firstsOf, recordAt, contentAt}
 use Rattle.body.specs.Find.{isUuid, has, firstWith, soughtIn}
-use Rattle.body.specs.declared.Sought.{Sought}
 use Rattle.body.specs.declared.Sought.the-variants.{At, Nowhere}
 use Rattle.body.specs.declared.records.Record.{Record}
 use Rattle.body.proofs.Sectioned.{Left, Turn, left-start, left-turn, left-some, left-none, spot-content}

@@ -1,33 +1,31 @@
 -- The records of a body one by one: the fields that the walk takes at a place say where the next record starts and what stands at its spots, by recursion on them; and where
 -- sections of a body are left, the first of them is the record there. These are the laws for a loop over records: start, turn, stop.
 use Prim.Native.Nat.{ℕ, _+_, _-_, _<_, _≤_}
-use mathlib.Core.Path.{_≡_, refl, sym, ap, subst, _∙_}
+use mathlib.Core.Path.{_≡_, refl, sym, ap, _∙_}
 use mathlib.Core.Bool.{Bool, true, false, cond, not, _&&_, false≢true}
 use mathlib.Core.Logic.{inl, inr}
 use mathlib.Core.List.{List, [], _∷_, _++_}
 use native.Mathlib.Nat.{add-zero}
 use native.Mathlib.Omega.{arith}
-use lib.Dec.{eqb, ltb}
+use lib.Dec.{eqb}
 use lib.ListN.{length, take, drop, length-append}
 use lib.Seq.{take-at}
-use borrow.Author.Tests.{eqb-true, ltb-true, ltb-false}
+use borrow.Author.Tests.{eqb-true}
 use Rattle.words.proofs.EachLaws.{both}
 use Rattle.fields.specs.Stored.{Stored, bytesOf, roomOf}
 use Rattle.fields.specs.Walk.{walkOf, lenAt, endWithData, fieldAt, after}
 use Rattle.fields.specs.declared.Cursor.{Cursor}
-use Rattle.fields.specs.declared.Field.{Field}
 use Rattle.fields.specs.declared.Walked.{Walked}
 use Rattle.fields.specs.declared.Walked.the-variants.{Took, Finished, Misplaced, Broken}
 use Rattle.fields.proofs.Outcomes.{taken, forward}
 use Rattle.body.specs.Division.{joined}
-use Rattle.body.specs.Sections.{isEnd, push, runs, firstData}
+use Rattle.body.specs.Sections.{isEnd, runs, firstData}
 use Rattle.body.specs.Decision.{storedAt, fieldsOf, takenFrom, exactFrom, endsEmpty, versionFirst, wellFormed, headerIn, recordsIn}
 use Rattle.body.specs.RecordAt.{beforeEnd, behindEnd, spotOf, recordAt, contentAt}
-use Rattle.body.specs.declared.records.Spot.the-variants.{At, Absent}
 use Rattle.body.proofs.Division.{stored-long, data-long}
 use Rattle.body.proofs.Decided.{sections-in}
 use Rattle.body.proofs.Verdict.{some-run}
-use Rattle.body.proofs.Along.{taken-took, taken-else, taken-stop, taken-fits, taken-no-data, taken-length, next-place, walkable-all}
+use Rattle.body.proofs.Along.{taken-took, taken-else, taken-stop, taken-fits, taken-no-data, next-place, walkable-all}
 
 -- in a record at place p
 abbrev pub inside : ℕ → Cursor

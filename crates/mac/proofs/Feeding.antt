@@ -21,7 +21,7 @@ use Rattle.fields.specs.declared.Walked.the-variants.{Took, Finished, Misplaced
 use Rattle.fields.proofs.Walked as walked
 use Rattle.fields.proofs.Outcomes.{forward}
 use Rattle.body.specs.Sections.{covered}
-use Rattle.body.specs.Decision.{storedAt, takenFrom, coveredOf}
+use Rattle.body.specs.Decision.{takenFrom, coveredOf}
 use Rattle.body.proofs.Along.{next-place, fold-took, fold-else}
 use Rattle.mac.specs.Next.{placeAfter, cursorAt, nextOf, Steps}
 

@@ -23,7 +23,7 @@ use Rattle.file.specs.Layout.{split, join, glue, listed, tag, marker}
 use Rattle.file.specs.Refusals.{Test, First}
 use Rattle.file.specs.Description.{IsSafe, wrapped, cbc, partsOf, fileOf}
 use Rattle.file.specs.Reading.{Report, refused, workspaceOf, earlyTests, readingOf, Answers}
-use Rattle.file.specs.Writing.{Writing, writeTests, writingOf}
+use Rattle.file.specs.Writing.{Writing, writeTests}
 use Rattle.file.proofs.Accepted as Accepted
 use Rattle.file.proofs.Written as Written
 use Rattle.file.proofs.Passed.{Late}

@@ -1,5 +1,5 @@
 -- Past 1 to 8 a reading answers what `settle` answers on what `decrypt` hands on, by its report; and that is the whole body decrypted, by the laws of the steps.
-use Prim.Native.Nat.{ℕ, _+_, _-_, _*_, _≤_}
+use Prim.Native.Nat.{ℕ, _+_, _-_, _≤_}
 use mathlib.Core.Path.{_≡_, refl, sym, ap, ap₂, _∙_, subst}
 use mathlib.Core.Bool.{Bool, true, false}
 use mathlib.Core.List.{List, _++_}
@@ -15,11 +15,9 @@ use Rattle.file.specs.Layout.{split}
 use Rattle.file.specs.Edition.{Stretched}
 use Rattle.file.specs.Reading.{Report, refused, readingOf, settled}
 use Rattle.file.proofs.Passed.{Late, Early, early, passed-early}
-use Rattle.file.proofs.Accepted.{good-length}
 use Rattle.file.proofs.Ends as Ends
 use Rattle.file.proofs.Decrypted.{whole-body}
 use Rattle.safe.specs.V3.{v3, v3Edition, stretchedV3}
-use Rattle.safe.specs.Answers.{reported}
 use Rattle.safe.specs.Calls.{saltIn, iterIn, ivIn, encryptedIn, macIn, blocksIn, stretchedIn, keyKIn, keyLIn, lastState, numberOf, Reports, Reads}
 use Rattle.safe.specs.Steps.{Decrypts, Settles, settledUnder, openedBy}
 use Rattle.safe.specs.declared.Reading.{Reading}

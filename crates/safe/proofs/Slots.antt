@@ -4,7 +4,7 @@ use mathlib.Core.Path.{_≡_, refl, sym, ap, ap₂, _∙_}
 use mathlib.Core.List.{List, _++_, append-assoc}
 use native.Mathlib.Omega.{arith}
 use lib.ListN.{length, take, drop, length-drop}
-use lib.Seq.{take-at, drop-at, drop-append-add, drop-drop, length-take-le}
+use lib.Seq.{take-at, drop-append-add, drop-drop, length-take-le}
 use Rattle.words.specs.Slices.{zeros, copied}
 use Rattle.words.proofs.SliceLaws.{copied-over}
 use Rattle.words.proofs.ByteLaws.{drop-same}

@@ -13,7 +13,7 @@ ghost use Prim.Native.Nat.{_+_, _≤_};
 ghost use lib.ListN.{length, take, drop};
 ghost use Rattle.words.specs.Slices.{zeros};
 ghost use Rattle.file.specs.Description.{wrapped};
-ghost use Rattle.safe.specs.V3.{v3, v3Edition};
+ghost use Rattle.safe.specs.V3.{v3};
 ghost use Rattle.safe.specs.Answers.{writtenNumber};
 ghost use Rattle.safe.specs.Laying.{Headed, Blank, Laid};
 

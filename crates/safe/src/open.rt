@@ -8,7 +8,6 @@ use super::settle::settle;
 use stretch::Stretcher;
 use words::slices::first_32;
 use words::slices::same;
-ghost use mathlib.Core.Path.{_≡_};
 ghost use Rattle.safe.specs.Calls.{Reports};
 ghost use Rattle.safe.specs.Steps.{Ready, settledUnder, openedBy};
 

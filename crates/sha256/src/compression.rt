@@ -8,7 +8,6 @@ use words::numbers::high;
 use words::rotation::right;
 ghost use mathlib.Core.Path.{_≡_};
 ghost use Prim.Native.Nat.{_+_, _/_, _≤_};
-ghost use mathlib.Core.List.{[], _∷_};
 ghost use lib.ListN.{length, drop};
 ghost use Rattle.sha256.specs.Sha256.{plus, Ch, Maj, three as threeOf, Sum0, Sum1, Sigma0, Sigma1, roundOf, sumOf, compressOf, wordOf, wordsOf, initial, hashOf, digestOf};
 ghost use Rattle.sha256.specs.Turns.{listOf, nextOf, movedOf, turnOf, turnsOf, quarter};

@@ -1,7 +1,7 @@
 -- The three demands of `talc_read` and `talc_write` as they ship, each call taken by its contract alone (`TalcRead` and `TalcWrite`): what is said of every call of
 -- `read` and `write` (safe, Demands.antt), carried over by `as-read` and `as-written`.
 use Prim.Native.Nat.{ℕ, _+_, _-_, _<_, _≤_}
-use mathlib.Core.Path.{_≡_, refl, sym, ap, ap₂, _∙_}
+use mathlib.Core.Path.{_≡_, refl, sym, ap, _∙_}
 use mathlib.Core.Logic.{_↔_}
 use mathlib.Core.List.{List, [], _∷_, _++_}
 use lib.ListN.{length, take, drop}
@@ -13,10 +13,8 @@ use Rattle.body.specs.declared.Sought.{Sought}
 use Rattle.body.proofs.FindCall.{find-says}
 use Rattle.file.specs.Description.{IsSafe}
 use Rattle.safe.specs.V3.{v3}
-use Rattle.safe.specs.Answers.{headerCount, recordCount}
 use Rattle.safe.specs.Calls as Calls
 use Rattle.safe.specs.Calls.{saltIn, iterIn, ivIn, Matching, OneToSeven, Accepts}
-use Rattle.safe.specs.declared.Reading.{Reading}
 use Rattle.safe.proofs.Demands as Demands
 use Rattle.safe.proofs.Acceptance.{keys-long}
 use Rattle.talcfeather.specs.Numbers.{inBytes}

@@ -1,7 +1,6 @@
 -- `body::is_uuid` meets its contract: 16 bytes are a UUID's value, and no other data are.
-use Prim.Native.Nat.{ℕ}
-use mathlib.Core.Path.{_≡_, sym, ap, _∙_}
-use mathlib.Core.Bool.{Bool, true, _&&_}
+use mathlib.Core.Path.{sym, ap, _∙_}
+use mathlib.Core.Bool.{Bool, _&&_}
 use lib.Dec.{eqb}
 use borrow.Author.Tests.{eq-eqb, ne-eqb}
 use Rattle.body.proofs.Hunt.{uuid-took, uuid-else}

@@ -1,7 +1,7 @@
 -- `mac::fed` meets its contract: a walk of its MIR by hand, since a local struct is lent. The state is copied into the local,
 -- which is lent to `feed` for a lifetime that is made for the call; the lifetime is ended, and the local is taken back at the last
 -- value that `feed` ensures. Of `feed` the proof knows the contract alone, and it names no field of the struct.
-use mathlib.Core.Path.{_≡_, refl, sym, ap, subst}
+use mathlib.Core.Path.{refl, sym, ap, subst}
 use Prim.Native.Nat.{ℕ}
 use mathlib.Core.List.{[], _∷_, List}
 use lib.Dec.{T as Holds}

@@ -2,7 +2,7 @@
 -- whole loop. In each turn it is lent again to `absorb`, for a lifetime that is made for the call, and comes back at the last value that
 -- `absorb` ensures. Of `behind`, `data_at` and `absorb` the proof knows the contracts alone, and it names no field of the struct.
 use mathlib.Core.Path.{_≡_, refl, sym, ap, subst}
-use Prim.Native.Nat.{ℕ, _-_, _<_, _≤_, _^_}
+use Prim.Native.Nat.{ℕ, _-_, _<_, _^_}
 use native.Mathlib.Omega.{arith}
 use mathlib.Core.List.{[], _∷_, List}
 use mathlib.Core.WellFounded.{WellFounded, InvImage·wf}

@@ -1,10 +1,10 @@
 -- `safe::open::open` meets its contract: the stretcher's states are the definition's, and so are its check and what follows.
-use mathlib.Core.Path.{_≡_, sym, ap, ap₂, _∙_}
+use mathlib.Core.Path.{sym, ap, ap₂, _∙_}
 use mathlib.Core.List.{List}
 use Prim.Native.Nat.{ℕ}
 use native.Mathlib.Omega.{arith}
 use denote.Ref.{now}
-use lib.ListN.{length, take, drop, length-drop}
+use lib.ListN.{take, drop, length-drop}
 use lib.Seq.{length-take-le}
 use Rattle.words.specs.Numbers.{numberLow}
 use Rattle.words.specs.Slices.{same}
