@@ -1,16 +1,13 @@
 -- The three demands of `talc_read` and `talc_write` as they ship, each call taken by its contract alone (`TalcRead` and `TalcWrite`): what is said of every call of
 -- `read` and `write` (safe, Demands.antt), carried over by `as-read` and `as-written`.
 use Prim.Native.Nat.{ℕ, _+_, _-_, _<_, _≤_}
-use mathlib.Core.Path.{_≡_, refl, sym, ap, _∙_}
+use mathlib.Core.Path.{_≡_, sym, ap, _∙_}
 use mathlib.Core.Logic.{_↔_}
 use mathlib.Core.List.{List, [], _∷_, _++_}
 use lib.ListN.{length, take, drop}
 use lib.Seq.{take-at, drop-at}
 use Rattle.words.specs.Numbers.{bytesLow}
 use Rattle.words.specs.Slices.{zeros}
-use Rattle.body.specs.Find.{Says, findNumber}
-use Rattle.body.specs.declared.Sought.{Sought}
-use Rattle.body.proofs.FindCall.{find-says}
 use Rattle.file.specs.Description.{IsSafe}
 use Rattle.safe.specs.V3.{v3}
 use Rattle.safe.specs.Calls as Calls
@@ -20,7 +17,6 @@ use Rattle.safe.proofs.Acceptance.{keys-long}
 use Rattle.talcfeather.specs.Numbers.{inBytes}
 use Rattle.talcfeather.specs.Read.{TalcRead, TalcAccepts}
 use Rattle.talcfeather.specs.Write.{TalcWrite}
-use Rattle.talcfeather.specs.Find.{TalcFind, findNumbers, soughtOf}
 use Rattle.talcfeather.proofs.AsRead.{AsRead, as-read, as-written, bytesOf}
 
 -- zero keys and counts in bytes
@@ -145,10 +141,3 @@ module _ {file file′ passphrase passphrase′ before before′ workspace works
   pub demand3-unmatching : (Matching passphrase file → ⊥) → (Matching passphrase′ file′ → ⊥) → (n ≡ n′) × (answer ≡ answer′) × (workspace ≡ workspace′)
   demand3-unmatching m m′ =
       told (Demands.demand3-call-unmatching (x .reads) (y .reads) files passphrases workspaces iters (rw (x .number-is) at past) (rw (y .number-is) at past′) m m′)
-
--- ==== FIND returns the first record with the UUID (its number from 0 and the place of its first field), "none", or 9: what `talc_find` answers is what one of the
--- three says of the 16 bytes.
-pub find-said : {body uuid answer : List ℕ} {n : ℕ} → TalcFind body uuid n answer
-    → (s : Sought) × Says body uuid s × (n ≡ findNumber s) × (answer ≡ inBytes (findNumbers s))
-unfolding soughtOf
-find-said {body} {uuid} c = (soughtOf body uuid, find-says body uuid _ (c .sized) (refl, c .bytes), c .is-number, c .is-answer)

@@ -4,3 +4,4 @@ mod Keys
 pub mod OneAnswer
 pub mod AsRead
 pub mod Demands
+pub mod FindSaid
