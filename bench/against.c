@@ -17,8 +17,10 @@ struct slice {
 };
 
 #define SIDE(side)                                                                                 \
-    void side##_mac(uint8_t out[32], const uint8_t l[32], const struct slice *body);              \
+    void side##_mac(uint8_t out[32], const uint8_t l[32], const struct slice *body);               \
     uint32_t side##_talc_judge(const uint8_t *body, size_t n, uint8_t answer[16]);                 \
+    uint32_t side##_talc_find(const uint8_t *body, size_t n, const uint8_t uuid[16],               \
+                              uint8_t answer[24]);                                                 \
     uint32_t side##_talc_read(const uint8_t *file, size_t n, const uint8_t *p, size_t p_len,       \
                               uint32_t ceiling, uint8_t *space, size_t room, uint8_t out[96]);     \
     uint32_t side##_talc_write(const uint8_t *p, size_t p_len, const uint8_t salt[32],             \
@@ -38,12 +40,12 @@ struct slice {
     {                                                                                              \
         side##_probe_stretch(message, 8, salt, CHAIN, out);                                        \
     }                                                                                              \
-    static void side##_macs(uint8_t out[32])                                                      \
+    static void side##_macs(uint8_t out[32])                                                       \
     {                                                                                              \
         uint8_t l[32];                                                                             \
         key_number(l, 2);                                                                          \
         struct slice all = {body, body_len};                                                       \
-        side##_mac(out, l, &all);                                                                 \
+        side##_mac(out, l, &all);                                                                  \
         if (memcmp(out, safe + body_len + 168, 32) != 0)                                           \
             stop("the HMAC differs from the safe's");                                              \
     }                                                                                              \
@@ -51,6 +53,12 @@ struct slice {
     {                                                                                              \
         if (side##_talc_judge(body, body_len, out) != 0)                                           \
             stop("a body was refused");                                                            \
+    }                                                                                              \
+    static void side##_finds(uint8_t out[32])                                                      \
+    {                                                                                              \
+        static const uint8_t absent[16] = {0xff, 0xff, 0xff, 0xff, 0xff, 0xff, 0xff, 0xff};        \
+        if (side##_talc_find(body, body_len, absent, out) != 0 || out[0] != 0)                     \
+            stop("a UUID was found that is not there");                                            \
     }                                                                                              \
     static void side##_reads(uint8_t out[32])                                                      \
     {                                                                                              \
@@ -82,6 +90,7 @@ static void hold(const char *what, size_t notes, int small)
     struct contest contests[] = {
         {"HMAC over all fields", "MB/s", 0, 41, NULL, BOTH(macs)},
         {"Judging", "MB/s", 0, 21, NULL, BOTH(judges)},
+        {"Finding a UUID that is not there", "MB/s", 0, 21, NULL, BOTH(finds)},
         {"Reading, ITER 2,048", "MB/s", 0, 5, NULL, BOTH(reads)},
         {"Writing, ITER 2,048", "MB/s", 0, 5, NULL, BOTH(writes)},
     };

@@ -13,14 +13,14 @@ use Rattle.talcfeather.specs.Read.{TalcRead, answerBytes}
 use Rattle.talcfeather.specs.Write.{TalcWrite}
 
 -- K, L, the counts of header fields and records, and the two counts of work, in bytes
-abbrev pub bytesOf : Reading → List ℕ
-bytesOf r = r .k ++ (r .l ++ inBytes (headerCount (r .outcome) ∷ recordCount (r .outcome) ∷ r .compressions ∷ r .blocks ∷ []))
+abbrev pub answerOf : Reading → List ℕ
+answerOf r = r .k ++ (r .l ++ inBytes (headerCount (r .outcome) ∷ recordCount (r .outcome) ∷ r .compressions ∷ r .blocks ∷ []))
 
 pub record AsRead (file passphrase : List ℕ) (ceiling : ℕ) (before : List ℕ) (number : ℕ) (workspace answer : List ℕ) : Type 0 where
   pub r : Reading
   pub reads : Reads file passphrase ceiling before workspace r
   pub number-is : number ≡ numberOf r
-  pub answer-is : answer ≡ bytesOf r
+  pub answer-is : answer ≡ answerOf r
 
 pub as-read : {file passphrase before workspace answer : List ℕ} {ceiling n : ℕ} → TalcRead file passphrase ceiling before n workspace answer
     → AsRead file passphrase ceiling before n workspace answer

@@ -17,7 +17,7 @@ use Rattle.safe.proofs.Acceptance.{keys-long}
 use Rattle.talcfeather.specs.Numbers.{inBytes}
 use Rattle.talcfeather.specs.Read.{TalcRead, TalcAccepts}
 use Rattle.talcfeather.specs.Write.{TalcWrite}
-use Rattle.talcfeather.proofs.AsRead.{AsRead, as-read, as-written, bytesOf}
+use Rattle.talcfeather.proofs.AsRead.{AsRead, as-read, as-written, answerOf}
 
 -- zero keys and counts in bytes
 zero-bytes : {k l : List ℕ} {h n : ℕ} (c b : ℕ) → k ≡ zeros 32 → l ≡ zeros 32 → h ≡ 0 → n ≡ 0 → take 80 (k ++ (l ++ inBytes (h ∷ n ∷ c ∷ b ∷ []))) ≡ zeros 80
@@ -128,7 +128,7 @@ module _ {file file′ passphrase passphrase′ before before′ workspace works
   told : (x .r ≡ y .r) × (workspace ≡ workspace′) → (n ≡ n′) × (answer ≡ answer′) × (workspace ≡ workspace′)
   told e = (
     x .number-is ∙ ap Calls.numberOf (e .0) ∙ sym (y .number-is),
-    x .answer-is ∙ ap bytesOf (e .0) ∙ sym (y .answer-is),
+    x .answer-is ∙ ap answerOf (e .0) ∙ sym (y .answer-is),
     e .1,
   )
 
