@@ -1,0 +1,121 @@
+-- A call, from its two passes: all records go in and the state is that of the definition, or the first at fault is told and every byte is as before.
+use Prim.Native.Nat.{ℕ, zero, suc, _+_, _*_, _-_, _/_, _<_, _≤_}
+use mathlib.Core.Path.{_≡_, refl, sym, ap, subst, _∙_}
+use mathlib.Core.Bool.{Bool, true, false, cond}
+use mathlib.Core.Logic.{⊎-elim}
+use mathlib.Core.List.{List}
+use native.Mathlib.Omega.{arith}
+use lib.Dec.{ltb}
+use lib.ListN.{length, take, drop, length-take, length-drop}
+use Rattle.words.specs.Numbers.{Bytes}
+use Rattle.replay.specs.Trace.{recordAt, countOf, fine}
+use Rattle.replay.specs.State.{placeOf, isState}
+use Rattle.replay.specs.Replay.{goesIn, recordedTo, then, judgedTo, left, replayOf, stateAfter}
+use Rattle.replay.specs.Waiting.{reservedTo, Reserves, sweptTo, Owned, AllOwned}
+use Rattle.replay.specs.Calls.{Replays}
+use Rattle.replay.specs.declared.Replayed.{Replayed}
+use Rattle.replay.specs.declared.Replayed.the-variants.{Accepted, Refused, NotAState}
+use Rattle.replay.proofs.Tests.{lt-or-ge}
+use Rattle.replay.proofs.Fine.{cut-not-fine}
+use Rattle.replay.proofs.Tidy.{Tidy, is-tidy}
+use Rattle.replay.proofs.Passes.{AllGo, passed, tests-agree, settled, goes-both}
+use Rattle.replay.proofs.Swept.{swept-back, reserved-to}
+
+-- a fault stays
+stays : (s t : List ℕ) (m n k : ℕ) → judgedTo s t m ≡ Refused n → judgedTo s t (k + m) ≡ Refused n
+unfolding judgedTo
+stays s t m n zero h = let z : 0 + m ≡ m = omega arith in ap (judgedTo s t) z ∙ h
+stays s t m n (suc k) h =
+    let z : suc k + m ≡ suc (k + m) = omega arith in
+    ap (judgedTo s t) z ∙ ap (λ (a : Replayed). then a (goesIn (recordedTo s t (k + m)) (recordAt t (k + m))) (k + m)) (stays s t m n k h)
+
+module _ (s t : List ℕ) (i : isState s ≡ true) (b : Bytes t) where
+  v : Tidy s
+  v = is-tidy s i
+
+  all-accepted : (n : ℕ) → AllGo t b s v n → judgedTo s t n ≡ Accepted
+  unfolding judgedTo
+  all-accepted zero g = refl
+  all-accepted (suc n) g =
+      let h : AllGo t b s v n = λ k l. g k (omega arith) in
+      ap (λ (a : Replayed). then a (goesIn (recordedTo s t n) (recordAt t n)) n) (all-accepted n h)
+      ∙ ap (λ (x : Bool). then Accepted x n) (tests-agree t b s v n h ∙ g n (omega arith))
+
+  fault : (n : ℕ) → AllGo t b s v n → goesIn (reservedTo s t n) (recordAt t n) ≡ false → judgedTo s t (suc n) ≡ Refused n
+  unfolding judgedTo
+  fault n g f =
+      ap (λ (a : Replayed). then a (goesIn (recordedTo s t n) (recordAt t n)) n) (all-accepted n g)
+      ∙ ap (λ (x : Bool). then Accepted x n) (tests-agree t b s v n g ∙ f)
+
+  answer-is : replayOf s t ≡ judgedTo s t (countOf t)
+  unfolding replayOf
+  answer-is = rw i
+
+  after-is : {a : Replayed} → replayOf s t ≡ a → stateAfter s t ≡ left a s t
+  unfolding stateAfter
+  after-is e = ap (λ (x : Replayed). left x s t) e
+
+  module _ (n : ℕ) (y : List ℕ) (r : Reserves s t n y) where
+    pub reserved-long : length y ≡ 131072
+    reserved-long = ap length (r .is-state) ∙ passed t b s v n (r .goes) .long .long
+
+    -- no record is left over
+    module _ (h : 32 * n ≡ length t) where
+      count : countOf t ≡ n
+      count = omega arith
+
+      -- each UUID has an entry, and keeps it
+      owned : (k : ℕ) → k < n → Owned (recordedTo (reservedTo s t n) t k) (take 16 (recordAt t k))
+      owned k l =
+          let h = passed t b s v n (r .goes) in
+          settled t b (reservedTo s t n) (h .long) k (λ j g. goes-both (reservedTo s t j) (recordAt t j) (r .goes j (omega arith)) .0) (λ j g. h .owned j (omega arith))
+          .owned (take 16 (recordAt t k)) (h .owned k l)
+
+      pub all-owned : AllOwned y t
+      all-owned = record {
+        long = reserved-long;
+        whole = omega arith;
+        owned = λ k l. subst (λ (x : List ℕ). Owned (recordedTo x t k) (take 16 (recordAt t k))) (sym (r .is-state)) (owned k (omega arith));
+      }
+
+      accepted : replayOf s t ≡ Accepted
+      accepted = answer-is ∙ ap (judgedTo s t) count ∙ all-accepted n (r .goes)
+
+      pub whole-accepted : (z : List ℕ) → z ≡ recordedTo y t (countOf t) → Replays s t Accepted z
+      whole-accepted z e = record {
+        bytes = b;
+        is-answer = sym accepted;
+        is-after = e ∙ ap (λ (x : List ℕ). recordedTo x t (countOf t)) (r .is-state) ∙ ap (λ (k : ℕ). recordedTo (reservedTo s t n) t k) count
+            ∙ passed t b s v n (r .goes) .same ∙ sym (after-is accepted ∙ ap (recordedTo s t) count);
+      }
+
+    -- one is at fault, or cut
+    module _ (h : 32 * n ≡ length t → ⊥) where
+      low : n < countOf t
+      low = omega (arith, r .most)
+
+      stop : goesIn (reservedTo s t n) (recordAt t n) ≡ false
+      stop = ⊎-elim (r .stop) cut (lt-or-ge n (length t / 32))
+        where
+          cut : length t / 32 ≤ n → goesIn (reservedTo s t n) (recordAt t n) ≡ false
+          cut g =
+              let q : length (recordAt t n) < 32 = simp (length-take, length-drop) (omega arith) in
+              ap (λ (x : Bool). cond x (ltb (placeOf (reservedTo s t n) (take 16 (recordAt t n))) 4096) false) (cut-not-fine (recordAt t n) q)
+
+      refused : replayOf s t ≡ Refused n
+      refused =
+          let q : (countOf t - suc n) + suc n ≡ countOf t = omega (arith, low) in
+          answer-is ∙ ap (judgedTo s t) (sym q) ∙ stays s t (suc n) n (countOf t - suc n) (fault n (r .goes) stop)
+
+      pub whole-refused : (z : List ℕ) → z ≡ sweptTo y 4096 → Replays s t (Refused n) z
+      whole-refused z e = record {
+        bytes = b;
+        is-answer = sym refused;
+        is-after = e ∙ ap (λ (x : List ℕ). sweptTo x 4096) (r .is-state)
+            ∙ swept-back s (reservedTo s t n) v (passed t b s v n (r .goes) .long .long) (reserved-to t b s v n (r .goes))
+            ∙ sym (after-is refused);
+      }
+
+pub not-a-state : (s t : List ℕ) → Bytes t → isState s ≡ false → Replays s t NotAState s
+unfolding replayOf stateAfter
+not-a-state s t b h = record { bytes = b; is-answer = rw h; is-after = rw h }

@@ -1,0 +1,60 @@
+-- What the tests on the way to a `return` say of the definition's own tests: `search tests` closes a `return` of a chain of tests. And each test either holds or not.
+use Prim.Native.Nat.{ℕ, _<_, _≤_}
+use mathlib.Core.Path.{_≡_, refl, sym, ap, _∙_}
+use mathlib.Core.Bool.{Bool, true, false, cond}
+use mathlib.Core.Logic.{_⊎_, inl, inr}
+use mathlib.Core.List.{List}
+use native.Mathlib.Omega.{arith}
+use lib.Dec.{eqb, ltb}
+use borrow.Author.Tests.{lt-ltb, le-ltb, le-leb, lt-leb, eq-eqb, ne-eqb, ltb-true, ltb-false, eqb-true, eqb-false}
+use Rattle.words.specs.Slices.{same}
+use Rattle.words.proofs.SliceLaws.{same-refl, same-true}
+
+pub ruleset tests = (lt-ltb, le-ltb, le-leb, lt-leb, eq-eqb, ne-eqb)
+
+pub no : {A : Type 0} → true ≡ false → A
+no e = absurd (let z : _≡_ {A = ℕ} 0 1 = cc in omega arith)
+
+pub lt-or-ge : (a b : ℕ) → (a < b) ⊎ (b ≤ a)
+lt-or-ge a b = by (ltb a b) refl
+  where
+    by : (t : Bool) → ltb a b ≡ t → (a < b) ⊎ (b ≤ a)
+    by true e = inl (ltb-true a b e)
+    by false e = inr (ltb-false a b e)
+
+pub eq-or-ne : (a b : ℕ) → (a ≡ b) ⊎ (a ≡ b → ⊥)
+eq-or-ne a b = by (eqb a b) refl
+  where
+    by : (t : Bool) → eqb a b ≡ t → (a ≡ b) ⊎ (a ≡ b → ⊥)
+    by true e = inl (eqb-true a b e)
+    by false e = inr (eqb-false a b e)
+
+pub same-false : (a b : List ℕ) → same a b ≡ false → a ≡ b → ⊥
+same-false a b h e = no (sym (same-refl a) ∙ ap (same a) e ∙ h)
+
+pub differ : (a b : List ℕ) → (a ≡ b → ⊥) → same a b ≡ false
+differ a b n = by (same a b) refl
+  where
+    by : (t : Bool) → same a b ≡ t → t ≡ false
+    by true e = absurd (n (same-true a b e))
+    by false e = refl
+
+pub alike-or-not : (a b : List ℕ) → (a ≡ b) ⊎ (a ≡ b → ⊥)
+alike-or-not a b = by (same a b) refl
+  where
+    by : (t : Bool) → same a b ≡ t → (a ≡ b) ⊎ (a ≡ b → ⊥)
+    by true e = inl (same-true a b e)
+    by false e = inr (same-false a b e)
+
+-- a chain of tests, one by one: the test of a number m that is the definition's n, and of a flag t that is the definition's b
+pub if-eq : {A : Type 0} {m n k : ℕ} {x y : A} (z : A) → m ≡ n → m ≡ k → x ≡ y → x ≡ cond (eqb n k) y z
+if-eq {n = n} {k = k} z p q e = e ∙ rw (eq-eqb n k (sym p ∙ q))
+
+pub if-ne : {A : Type 0} {m n k : ℕ} {x z : A} (y : A) → m ≡ n → (m ≡ k → ⊥) → x ≡ z → x ≡ cond (eqb n k) y z
+if-ne {n = n} {k = k} y p q e = e ∙ rw (ne-eqb n k (λ h. q (p ∙ h)))
+
+pub if-true : {A : Type 0} {t b : Bool} {x y : A} (z : A) → t ≡ b → t ≡ true → x ≡ y → x ≡ cond b y z
+if-true {y = y} z p q e = e ∙ ap (λ (g : Bool). cond g y z) (sym (sym p ∙ q))
+
+pub if-false : {A : Type 0} {t b : Bool} {x z : A} (y : A) → t ≡ b → t ≡ false → x ≡ z → x ≡ cond b y z
+if-false {z = z} y p q e = e ∙ ap (λ (g : Bool). cond g y z) (sym (sym p ∙ q))
