@@ -5,3 +5,4 @@ pub mod OneAnswer
 pub mod AsRead
 pub mod Demands
 pub mod FindSaid
+pub mod LateEdits

@@ -10,6 +10,7 @@ use Rattle.talcfeather.specs.Walk.{TalcWalk}
 use Rattle.talcfeather.specs.Append.{TalcAppend}
 use Rattle.talcfeather.specs.Judge.{TalcJudge}
 use Rattle.talcfeather.specs.Find.{TalcFind}
+use Rattle.talcfeather.specs.Trace.{TalcReplay, TalcStanding}
 
 module _ {n n′ : ℕ} {a a′ : List ℕ} where
   pub walk-one : (body : List ℕ) (place : ℕ) (r : Bool) → TalcWalk body place r n a → TalcWalk body place r n′ a′ → (n ≡ n′) × (a ≡ a′)
@@ -35,3 +36,10 @@ module _ {n n′ : ℕ} {a a′ : List ℕ} where
       → TalcWrite passphrase salt iter k l iv body before n a → TalcWrite passphrase salt iter k l iv body before n′ a′ → (n ≡ n′) × (a ≡ a′)
   write-one passphrase salt iter k l iv body before x y =
       (x .is-number ∙ sym (y .is-number), x .is-output ∙ sym (y .is-output))
+
+  pub replay-one : (before trace s s′ : List ℕ) → TalcReplay before trace n s a → TalcReplay before trace n′ s′ a′ → (n ≡ n′) × (s ≡ s′) × (a ≡ a′)
+  replay-one before trace s s′ x y =
+      (x .is-number ∙ sym (y .is-number), x .is-state ∙ sym (y .is-state), x .is-answer ∙ sym (y .is-answer))
+
+  pub standing-one : (state uuid : List ℕ) → TalcStanding state uuid n a → TalcStanding state uuid n′ a′ → (n ≡ n′) × (a ≡ a′)
+  standing-one state uuid x y = (x .is-number ∙ sym (y .is-number), x .is-answer ∙ sym (y .is-answer))

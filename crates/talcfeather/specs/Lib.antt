@@ -5,3 +5,4 @@ pub mod Walk
 pub mod Append
 pub mod Judge
 pub mod Find
+pub mod Trace

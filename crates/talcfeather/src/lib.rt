@@ -5,5 +5,6 @@ mod judge;
 mod numbers;
 mod read;
 mod refusal;
+mod trace;
 mod walk;
 mod write;
