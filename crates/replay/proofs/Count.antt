@@ -1,5 +1,5 @@
 -- How many entries are taken: one more where a free one is taken, as many where a taken one is written, and all where a look-up finds no place. By recursion on the number of entries.
-use Prim.Native.Nat.{ℕ, zero, suc, _+_, _-_, _<_, _≤_}
+use Prim.Native.Nat.{ℕ, zero, suc, _+_, _<_, _≤_}
 use mathlib.Core.Path.{_≡_, refl, sym, ap, ap₂, _∙_}
 use mathlib.Core.Bool.{Bool, true, false, cond}
 use mathlib.Core.Logic.{⊎-elim}
@@ -8,9 +8,9 @@ use native.Mathlib.Nat.{eq-or-lt-of-le}
 use native.Mathlib.Omega.{arith}
 use borrow.Author.Tests.{eq-eqb, ne-eqb}
 use lib.Dec.{eqb}
-use Rattle.replay.specs.State.{entryAt, cancelOf, startOf, slot, stops, seek, placeOf}
-use Rattle.replay.proofs.Tests.{lt-or-ge, eq-or-ne}
-use Rattle.replay.proofs.Places.{start-small}
+use Rattle.replay.specs.State.{entryAt, cancelOf, slot, stops, seek, placeOf}
+use Rattle.replay.proofs.Tests.{eq-or-ne}
+use Rattle.replay.proofs.Visits.{visits}
 use Rattle.replay.proofs.Lookup.{pass-taken}
 
 abbrev one : ℕ → ℕ
@@ -81,15 +81,6 @@ passes s u (suc n) d h j a b = by (stops s u (slot u d)) refl (passes s u n (d +
         → 4096 ≤ cond b (slot u d) (seek s u n (d + 1)) → (j : ℕ) → d ≤ j → j < d + suc n → stops s u (slot u j) ≡ false
     by true e r h j p q = absurd (omega arith)
     by false e r h j p q = ⊎-elim (λ z. ap (λ (k : ℕ). stops s u (slot u k)) (sym z) ∙ e) (λ z. r h j (omega arith) (omega arith)) (eq-or-lt-of-le p)
-
--- every entry is visited
-visits : (u : List ℕ) (k : ℕ) → k < 4096 → (d : ℕ) × (d < 4096) × (slot u d ≡ k)
-visits u k h =
-    let b = start-small u in
-    ⊎-elim
-    (λ l. (k + 4096 - startOf u, omega arith, omega arith))
-    (λ l. (k - startOf u, omega arith, omega arith))
-    (lt-or-ge k (startOf u))
 
 pub no-place-full : (s u : List ℕ) → 4096 ≤ placeOf s u → (k : ℕ) → k < 4096 → cancelOf (entryAt s k) ≡ 0 → ⊥
 no-place-full s u h k l =

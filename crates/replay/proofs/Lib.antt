@@ -2,6 +2,7 @@ pub mod Tests
 pub mod Parts
 pub mod Entries
 pub mod Places
+pub mod Visits
 pub mod Lookup
 pub mod Marks
 pub mod Blank

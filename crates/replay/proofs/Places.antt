@@ -1,15 +1,16 @@
 -- The look-up entry by entry is the definition's, and an entry that is written is the one put there: by the tests on the way.
-use Prim.Native.Nat.{ℕ, suc, _+_, _*_, _-_, _%_, _<_, _≤_}
+use Prim.Native.Nat.{ℕ, suc, _+_, _*_, _-_, _/_, _%_, _<_, _≤_}
 use mathlib.Core.Path.{_≡_, refl, sym, ap, _∙_}
 use mathlib.Core.Bool.{Bool, true, false, cond}
 use mathlib.Core.List.{List}
+use native.Mathlib.Nat.{mul-le-mul-right}
 use native.Mathlib.Omega.{arith}
 use borrow.Author.Tests.{eq-eqb, ne-eqb}
 use borrow.Rule.Slice.PartMut.{putMid}
 use lib.ListN.{take, drop}
 use lib.Seq.{drop-drop}
 use Rattle.words.specs.Slices.{same}
-use Rattle.replay.specs.State.{entryAt, cancelOf, put, startOf, slot, stops, seek, placeOf}
+use Rattle.replay.specs.State.{entryAt, cancelOf, put, spreadOf, startOf, stepOf, slot, stops, seek, placeOf}
 
 -- the part of the state that is entry i
 pub part-is : (s : List ℕ) (i : ℕ) → take (32 * i + 32 - 32 * i) (drop (32 * i) s) ≡ entryAt s i
@@ -25,9 +26,13 @@ unfolding stops
 stops-same s u i m x e z q =
     q ∙ rw (part-is s i, ne-eqb (cancelOf (entryAt s i)) 0 (λ w. z (e ∙ ap cancelOf (part-is s i) ∙ w)))
 
-pub start-small : (u : List ℕ) → startOf u < 4096
-unfolding startOf
-start-small u = omega arith
+pub spread-small : (u : List ℕ) → spreadOf u < 4294967296
+unfolding spreadOf
+spread-small u = omega arith
+
+-- how far a look-up goes in d steps
+pub far-small : (d h : ℕ) → d < 4096 → d * (2 * (h / 16384 % 64) + 1) < 524288
+far-small d h l = let m : d ≤ 4095 = omega arith in omega (arith, mul-le-mul-right (2 * (h / 16384 % 64) + 1) m)
 
 -- what is left of the look-up after d entries
 seek-one : (s u : List ℕ) (n d : ℕ) → n ≡ suc (4096 - (d + 1)) → seek s u n d ≡ cond (stops s u (slot u d)) (slot u d) (seek s u (4096 - (d + 1)) (d + 1))
@@ -41,15 +46,18 @@ pub record Looks (s u : List ℕ) (d : ℕ) : Type 0 where
 pub looks-start : (s u : List ℕ) → Looks s u 0
 looks-start s u = record { far = omega arith; rest = refl }
 
-module _ (s u : List ℕ) (d f : ℕ) (x : Bool) (l : Looks s u d) (h : d < 4096) (k : f ≡ startOf u) (e : x ≡ stops s u ((f + d) % 4096)) where
+module _ (s u : List ℕ) (d h : ℕ) (x : Bool) (l : Looks s u d) (m : d < 4096) (k : h ≡ spreadOf u) (e : x ≡ stops s u ((h / 1048576 + d * (2 * (h / 16384 % 64) + 1)) % 4096)) where
+  visited : (h / 1048576 + d * (2 * (h / 16384 % 64) + 1)) % 4096 ≡ slot u d
+  visited = ap (λ (n : ℕ). (n / 1048576 + d * (2 * (n / 16384 % 64) + 1)) % 4096) k
+
   tested : x ≡ stops s u (slot u d)
-  tested = e ∙ ap (λ (n : ℕ). stops s u ((n + d) % 4096)) k
+  tested = e ∙ ap (stops s u) visited
 
   next : cond x (slot u d) (seek s u (4096 - (d + 1)) (d + 1)) ≡ placeOf s u
   next = ap (λ (b : Bool). cond b (slot u d) (seek s u (4096 - (d + 1)) (d + 1))) tested ∙ sym (seek-one s u (4096 - d) d (omega arith)) ∙ l .rest
 
-  pub looks-found : x ≡ true → (f + d) % 4096 ≡ placeOf s u
-  looks-found t = ap (λ (n : ℕ). (n + d) % 4096) k ∙ (rw t at next)
+  pub looks-found : x ≡ true → (h / 1048576 + d * (2 * (h / 16384 % 64) + 1)) % 4096 ≡ placeOf s u
+  looks-found t = visited ∙ (rw t at next)
 
   pub looks-next : x ≡ false → Looks s u (d + 1)
   looks-next t = record { far = omega arith; rest = rw t at next }

@@ -1,4 +1,4 @@
--- A state of 131,072 bytes, as the code lays it out: 4,096 entries of 32 bytes. A free entry is zeros. A taken one is a UUID and two marks of 8 bytes, the lowest byte first: 2^32, or, once a cancel has come, 2^33 and the time of the latest; the second is the same of reissues. A UUID's entry is the first that is free or its own, from a place on that its bytes give.
+-- A state of 131,072 bytes, as the code lays it out: 4,096 entries of 32 bytes. A free entry is zeros. A taken one is a UUID and two marks of 8 bytes, the lowest byte first: 2^32, or, once a cancel has come, 2^33 and the time of the latest; the second is the same of reissues. A UUID's entry is the first that is free or its own, in an order that its bytes give.
 use Prim.Native.Nat.{ℕ, zero, suc, _+_, _*_, _/_, _%_, max}
 use mathlib.Core.Bool.{Bool, true, false, cond}
 use mathlib.Core.List.{List, [], _∷_, _++_}
@@ -49,12 +49,21 @@ put s k e = take (32 * k) s ++ (e ++ drop (32 * k + 32) s)
 abbrev pub four : List ℕ → ℕ → List ℕ
 four s p = getD s p 0 ∷ getD s (p + 1) 0 ∷ getD s (p + 2) 0 ∷ getD s (p + 3) 0 ∷ []
 
--- where the look-up of u starts: any number below 4,096 would do, and this one spreads
-unfoldable pub startOf : List ℕ → ℕ
-startOf u = (numberLow (four u 0) + numberLow (four u 4) + numberLow (four u 8) + numberLow (four u 12)) % 4294967296 * 2654435769 % 4294967296 / 1048576
+-- a number of 32 bits of u's bytes: any would do, and this one spreads
+unfoldable pub spreadOf : List ℕ → ℕ
+spreadOf u =
+    (numberLow (four u 0) + numberLow (four u 4) + numberLow (four u 8) + numberLow (four u 12)) % 4294967296 * 2654435769 % 4294967296
 
+-- the entry at which the look-up of u starts, and how far it goes on at each step: an odd number, so that it visits every entry
+abbrev pub startOf : List ℕ → ℕ
+startOf u = spreadOf u / 1048576
+
+abbrev pub stepOf : List ℕ → ℕ
+stepOf u = 2 * (spreadOf u / 16384 % 64) + 1
+
+-- the d-th entry that it visits
 abbrev pub slot : List ℕ → ℕ → ℕ
-slot u d = (startOf u + d) % 4096
+slot u d = (startOf u + d * stepOf u) % 4096
 
 -- the look-up of u ends at entry k: it is free, or u's
 unfoldable pub stops : List ℕ → List ℕ → ℕ → Bool

@@ -8,7 +8,7 @@ ghost use lib.ListN.{length, take, drop};
 ghost use Rattle.words.specs.Numbers.{numberLow, bytesLow};
 ghost use Rattle.words.specs.Slices.{zeros, same};
 ghost use Rattle.replay.specs.Trace.{eventOf, fine as fineOf, known as knownOf};
-ghost use Rattle.replay.specs.State.{startOf, entryOf, markOf, isMark as isMarkOf, noted, tidy as tidyOf};
+ghost use Rattle.replay.specs.State.{spreadOf, entryOf, markOf, isMark as isMarkOf, noted, tidy as tidyOf};
 ghost use Rattle.replay.specs.Replay.{latestOf, closed as closedOf, toldOf};
 
 fn joined(a: u32, b: u32) -> u64
@@ -27,16 +27,16 @@ pub fn mark(e: &[u8], p: usize) -> u64
     joined(a, b)
 }
 
-// Where the look-up of a UUID starts. No proof needs that it spreads; the speed does.
-pub fn start(u: &[u8]) -> usize
+// Which entries the look-up of a UUID visits, and in which order, hangs on this. No proof needs that it spreads; the speed does.
+pub fn spread(u: &[u8]) -> usize
     requires { ⌜ length (now u) ≡ 16 ⌝ }
-    ensures { λ r. ⌜ r ≡ startOf (now (u .entry)) ⌝ }
+    ensures { λ r. ⌜ r ≡ spreadOf (now (u .entry)) ⌝ }
 {
     let a = words::numbers::low(u[0], u[1], u[2], u[3]) as usize;
     let b = words::numbers::low(u[4], u[5], u[6], u[7]) as usize;
     let c = words::numbers::low(u[8], u[9], u[10], u[11]) as usize;
     let d = words::numbers::low(u[12], u[13], u[14], u[15]) as usize;
-    (a + b + c + d) % 4294967296 * 2654435769 % 4294967296 / 1048576
+    (a + b + c + d) % 4294967296 * 2654435769 % 4294967296
 }
 
 fn known(k: u8) -> bool

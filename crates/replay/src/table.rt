@@ -48,10 +48,12 @@ pub fn place(state: &[u8], uuid: &[u8]) -> usize
     requires { ⌜ (length (now state) ≡ 131072) × (length (now uuid) ≡ 16) ⌝ }
     ensures { λ r. ⌜ r ≡ placeOf (now (state .entry)) (now (uuid .entry)) ⌝ }
 {
-    let first = entry::start(uuid);
+    let h = entry::spread(uuid);
+    let first = h / 1048576;
+    let step = 2 * (h / 16384 % 64) + 1;
     let mut d: usize = 0;
     while d < 4096 {
-        let i = (first + d) % 4096;
+        let i = (first + d * step) % 4096;
         if stops(state, uuid, i) {
             return i;
         }

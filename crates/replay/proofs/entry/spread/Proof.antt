@@ -1,15 +1,15 @@
--- `replay::entry::start` meets its contract: the four words are read as the definition reads them.
-use Rattle.replay.specs.State.{startOf}
+-- `replay::entry::spread` meets its contract: the four words are read as the definition reads them.
+use Rattle.replay.specs.State.{spreadOf}
 use borrow.Author.Needs.{needs}
-use Rattle.replay.proofs.entry.start.Statement.{statement}
-use Rattle.replay.proofs.entry.start.Tie as tie
+use Rattle.replay.proofs.entry.spread.Statement.{statement}
+use Rattle.replay.proofs.entry.spread.Tie as tie
 
 returns : tie.Need-returns
-unfolding startOf
+unfolding spreadOf
 returns c = rw (c .low4 .ensures, c .before .before .before .before .before .low3 .ensures, c .before .before .before .before .before .before .before .before .before .before .low2 .ensures, c .before .before .before .before .before .before .before .before .before .before .before .before .before .before .before .low .ensures)
 
-pub start-spec : {M : Type 1} → statement M
-start-spec =
+pub spread-spec : {M : Type 1} → statement M
+spread-spec =
     tie.close
     (tie.spec
     (λ c. search needs)
