@@ -5,3 +5,4 @@
 pub mod bodies;
 pub mod calls;
 pub mod guarded;
+pub mod traces;
