@@ -80,3 +80,14 @@ fn aligned(line: &Line, widths: [usize; 5]) -> String {
     let line: String = columns.map(|(text, width)| format!("{text:width$}")).collect();
     line.trim_end().to_string() + "\n"
 }
+
+#[test]
+fn alignment() {
+    let line = |texts: [&str; 5]| texts.map(String::from).to_vec();
+    let widths = [9, 6, 2, 4, 11];
+    assert_eq!(
+        aligned(&line(["Lathe 3", "ä", "", "x", "cancelled"]), widths),
+        "Lathe 3  ä       x   cancelled\n"
+    );
+    assert_eq!(aligned(&line(["Lathe 3", "ä", "", "", ""]), widths), "Lathe 3  ä\n");
+}

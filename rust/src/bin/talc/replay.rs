@@ -100,7 +100,7 @@ fn change(before: &[u8], after: &[u8], uuid: &[u8; 16]) -> Result<Option<String>
 fn at_fault(trace: &[u8], record: u64) -> String {
     let why = match trace.chunks(TRACE_RECORD).nth(record as usize) {
         Some(bytes) if bytes.len() < TRACE_RECORD => {
-            format!("it is cut, {} bytes of {TRACE_RECORD}", bytes.len())
+            format!("it is cut: {} of {TRACE_RECORD} bytes", bytes.len())
         }
         Some(bytes) if !(1..=3).contains(&bytes[20]) => format!("unknown kind {}", bytes[20]),
         Some(bytes) if bytes[21..].iter().any(|byte| *byte != 0) => "its pad is not zero".into(),

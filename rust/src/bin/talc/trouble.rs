@@ -92,7 +92,7 @@ fn advice(refusal: Refusal) -> &'static str {
 /// What is wrong with a state file of that length.
 fn no_state(length: usize) -> String {
     match length.cmp(&STATE_SIZE) {
-        Ordering::Less => format!("it has {length} bytes of {STATE_SIZE}"),
+        Ordering::Less => format!("it has {length} of {STATE_SIZE} bytes"),
         Ordering::Equal => "its bytes are damaged".to_string(),
         Ordering::Greater => format!("it has more than {STATE_SIZE} bytes"),
     }
@@ -110,8 +110,11 @@ impl fmt::Display for Trouble {
                 write!(f, "copy it again, or start a new one and replay all traces")
             }
             Trouble::Traces(refused, all) => {
-                write!(f, "refused, 16: {refused} of {all} traces: nothing of them was taken: ")?;
-                write!(f, "copy them again and replay them")
+                write!(
+                    f,
+                    "refused, 16: {refused} of {all} traces; nothing of a refused trace is "
+                )?;
+                write!(f, "taken: copy it again and replay it")
             }
             Trouble::Usage(message) => write!(f, "{message}; try talc --help"),
             Trouble::GivenUp => write!(f, "given up"),
