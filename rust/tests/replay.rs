@@ -428,6 +428,18 @@ fn bytes_of_free_entries() {
     }
 }
 
+/// Where every entry has a UUID and no mark, each look-up ends at such an entry.
+#[test]
+fn entries_without_marks() {
+    let random = &mut Random(20);
+    let state = [&[1][..], &[0; 31]].concat().repeat(4096);
+    assert_eq!(judged(&state, random), 19);
+    for uuid in [[0; 16], counted(1), random.array()] {
+        let ours = standing_ours(&state, &uuid, random);
+        assert_eq!((ours.number, ours.answer), (19, vec![0; 40]));
+    }
+}
+
 /// Taken once in that many times, else free.
 fn any_entry(random: &mut Random, share: usize) -> Vec<u8> {
     if !random.one_in(share) {
@@ -463,7 +475,7 @@ fn states_of_others() {
     met.each_of(&[0, 16, 19], 20);
 }
 
-/// UUIDs that a sum or a mix of their words can't tell apart: the i-th of each family.
+/// UUIDs that a sum or a mix of their words can't tell apart, or only just: the i-th of a family.
 fn alike(family: usize, i: u32) -> Uuid {
     let wide = u64::from(i).wrapping_mul(0x9E37_79B9_7F4A_7C15);
     let halves = |one: u64, other: u64| [one.to_le_bytes(), other.to_le_bytes()].concat();
@@ -476,6 +488,12 @@ fn alike(family: usize, i: u32) -> Uuid {
         4 => halves(u64::from(i) << 40, 0),
         5 => words([i, i.wrapping_neg(), 0, 0]),
         6 => words([i, 0, i, 0]),
+        // 256 that differ in one byte alone, for each of the sixteen.
+        7 => {
+            let mut uuid = [(i / 256) as u8; 16];
+            uuid[i as usize / 256 % 16] = i as u8;
+            uuid.to_vec()
+        }
         _ => words([0, i % 64, 0u32.wrapping_sub(i % 64 + i / 64), i / 64]),
     };
     bytes.try_into().unwrap()
@@ -485,7 +503,7 @@ fn alike(family: usize, i: u32) -> Uuid {
 #[test]
 fn uuids_that_collide() {
     let random = &mut Random(18);
-    for family in 0..8 {
+    for family in 0..9 {
         let mut order: Vec<u32> = (0..4096).collect();
         shuffle(random, &mut order);
         let kinds = [EDIT, CANCEL, REISSUE];
