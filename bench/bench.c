@@ -1,7 +1,7 @@
 /*
  * The proved code beside others, in one run: SHA-256 of a long message, whole and in pieces;
- * stretching; Twofish; whole files; judging a body. Each contest checks that all contenders come
- * to the same outcome. Libraries that are not there are left out.
+ * stretching; Twofish; whole files; judging a body; replaying a trace. Each contest checks that all
+ * contenders come to the same outcome. Libraries that are not there are left out.
  */
 #include <stdio.h>
 
@@ -31,6 +31,11 @@
 #define NETTLE(f)
 #define NETTLE_TWOFISH(f)
 #endif
+#ifdef HAVE_SQLITE
+#define SQLITE(f) {"SQLite in memory", f, 0},
+#else
+#define SQLITE(f)
+#endif
 #if defined HAVE_OPENSSL && defined HAVE_GCRYPT
 #define OTHERS {"OpenSSL and libgcrypt", read_others, 0},
 #else
@@ -41,6 +46,9 @@
 #define PORTABLE(f) {"portable C, gcc -O3", f, 0},
 #define MB(n) ((n) / 1e6)
 #define WHOLE(title, prepare) {title, "/s", 1, 3, prepare, {PROVED(read_proved) OTHERS}}
+#define REPLAY(over, prepare) \
+    {"Replaying 1,000,000 records, " over, "M/s", RECORDS / 1e6, 3, prepare, \
+     {PROVED(replay_proved) SQLITE(replay_sqlite)}}
 
 enum { SHORT = 1u << 20, LONG = 4194096 };
 
@@ -55,6 +63,11 @@ static void short_stretched(void) { safe_of(SHORT, 262144); }
 static void long_at_once(void) { safe_of(LONG, 2048); }
 static void long_stretched(void) { safe_of(LONG, 262144); }
 static void small_fields(void) { make_body(LONG, 0, 4); }
+static void one_uuid(void) { make_trace(1, 0); }
+static void some_random(void) { make_trace(64, 0); }
+static void many_random(void) { make_trace(4096, 0); }
+static void some_counted(void) { make_trace(64, 1); }
+static void many_counted(void) { make_trace(4096, 1); }
 
 enum { ONE_MESSAGE, IN_PIECES };
 
@@ -78,9 +91,28 @@ static struct contest contests[] = {
     WHOLE("Reading a body of 4 MB, ITER 262,144", long_stretched),
     {"Judging a body of 4 MB, many small fields", "MB/s", MB(LONG), 9, small_fields,
      {PROVED(judge_proved)}},
+    REPLAY("1 UUID", one_uuid),
+    REPLAY("64 UUIDs", some_random),
+    REPLAY("4,096 UUIDs", many_random),
+    REPLAY("64 counted up", some_counted),
+    REPLAY("4,096 counted up", many_counted),
 };
 
+/* The replays are the last. */
 enum { COUNT = sizeof contests / sizeof contests[0] };
+enum { REPLAYS = COUNT - 5, RANDOM_64, RANDOM_4096, COUNTED_64, COUNTED_4096 };
+
+/* How long a record takes, and what more UUIDs cost. */
+static void tell_replays(void)
+{
+    printf("\nns a record\n");
+    for (int i = REPLAYS; i < COUNT; i++)
+        for (const struct contender *c = contests[i].contenders; c->name != NULL; c++)
+            printf("  %-46s %-18s %8.1f\n", contests[i].title, c->name, c->seconds / RECORDS * 1e9);
+    printf("\nproved, a record over 4,096 UUIDs against one over 64: %.2f; counted up: %.2f\n",
+           contests[RANDOM_4096].contenders->seconds / contests[RANDOM_64].contenders->seconds,
+           contests[COUNTED_4096].contenders->seconds / contests[COUNTED_64].contenders->seconds);
+}
 
 int main(int count, char **arguments)
 {
@@ -96,5 +128,6 @@ int main(int count, char **arguments)
         contest_hold(&contests[i]);
     printf("\nproved, pieces of 50 bytes against the whole slice: %.2f\n",
            contests[ONE_MESSAGE].contenders->seconds / contests[IN_PIECES].contenders->seconds);
+    tell_replays();
     return count > 1 ? contest_draw(contests, COUNT, arguments[1]) : 0;
 }

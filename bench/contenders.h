@@ -10,6 +10,7 @@
 #define PIECE 50
 #define CHAIN 200000
 #define KEYS 2000
+#define RECORDS 1000000u
 
 /* The proved lower layers. */
 void probe_hash(const uint8_t *m, size_t n, uint8_t out[32]);
@@ -38,6 +39,7 @@ runs chain_proved, chain_portable, chain_openssl, chain_gcrypt, chain_nettle;
 runs cbc_proved, cbc_gcrypt, cbc_nettle;
 runs keys_proved, keys_gcrypt, keys_nettle;
 runs read_proved, read_others, judge_proved;
+runs replay_proved, replay_sqlite;
 
 /* A body of records up to about that many bytes, each with notes of that length and some small
    fields; and a safe around it. They stay for the contenders above. */
@@ -45,6 +47,10 @@ extern uint8_t body[], safe[], workspace[];
 extern size_t body_len;
 void make_body(size_t length, size_t notes, int small);
 void make_safe(uint32_t iter);
+
+/* A trace of RECORDS records over that many UUIDs, random ones or counted up from 0. It stays for
+   the contenders above. */
+void make_trace(size_t uuids, int counted);
 
 /* Ends the run. */
 void stop(const char *what);

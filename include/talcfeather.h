@@ -43,6 +43,13 @@
  * ceiling   the largest ITER for which the caller is willing to wait
  * marker    the 16 bytes PWS3-EOFPWS3-EOF between body and HMAC
  * workspace memory that receives the body
+ * trace     what a tablet recorded: a row of records of 32 bytes, no header.
+ *           A record holds UUID (16), time (4, lowest byte first), kind (1: 1
+ *           edit, 2 cancel, 3 reissue) and pad (11 zeros). It has nothing to
+ *           do with the records of a body.
+ * state     131,072 bytes that keep what the accepted traces came to; fresh,
+ *           it is zero
+ * standing  whether a login is cancelled, and by which times
  *
  * A body is well formed when all of these hold: it divides exactly into
  * fields; every END has length 0; the first field is Version (00), length 2,
@@ -80,6 +87,8 @@ extern "C" {
 #define TALC_FILL         12  /* append: fill is not exactly the needed number of bytes */
 #define TALC_END_DATA     13  /* append: END with data */
 #define TALC_FIELD        14  /* walk: the field is cut or passes the end, or END with data */
+#define TALC_TRACE        16  /* replay: a record of the trace is at fault; the answer has its number */
+#define TALC_STATE        19  /* replay, standing: the lent memory is no state */
 
 /* Limits, in bytes, and the smallest ITER. */
 #define TALC_FILE_MAX        4194304u  /* no file is longer; the longest regular one is 4,194,296 */
@@ -89,11 +98,23 @@ extern "C" {
 #define TALC_AROUND              200u  /* a file is this much longer than its body */
 #define TALC_ITER_MIN           2048u
 
+/* A state and a record of a trace, in bytes; and the UUIDs that a state holds. */
+#define TALC_STATE_SIZE       131072u
+#define TALC_TRACE_RECORD         32u
+#define TALC_STATE_UUIDS        4096u
+
+/* Kinds of a trace's records. */
+#define TALC_KIND_EDIT     1
+#define TALC_KIND_CANCEL   2
+#define TALC_KIND_REISSUE  3
+
 /* Sizes of answers. */
-#define TALC_READ_ANSWER   96
-#define TALC_WALK_ANSWER   72
-#define TALC_JUDGE_ANSWER  16
-#define TALC_FIND_ANSWER   24
+#define TALC_READ_ANSWER      96
+#define TALC_WALK_ANSWER      72
+#define TALC_JUDGE_ANSWER     16
+#define TALC_FIND_ANSWER      24
+#define TALC_REPLAY_ANSWER     8
+#define TALC_STANDING_ANSWER  40
 
 /* The 8-byte number that stands at `p`, lowest byte first. */
 static inline uint64_t talc_number(const uint8_t *p)
@@ -283,6 +304,64 @@ uint32_t talc_judge(const uint8_t *body, size_t body_len,
 uint32_t talc_find(const uint8_t *body, size_t body_len,
                    const uint8_t uuid[16],
                    uint8_t answer[TALC_FIND_ANSWER]);
+
+/*
+ * Takes a whole trace into a state. From a fresh state on, a login is
+ * cancelled exactly when the traces accepted so far, taken together, hold a
+ * cancel of it and no reissue with a time greater than its latest cancel.
+ * Equal times leave it cancelled; edits never reopen. So neither the order in
+ * which traces come nor a record that comes twice changes any standing.
+ *
+ * Refusals, the first that applies, in this order:
+ *  19  state_len is not 131,072, or the memory is no state
+ *  16  a record is cut (the last, of 1 to 31 bytes), has a kind other than 1
+ *      to 3, a pad that is not zero, or a UUID that would be one more than
+ *      4,096, over all kinds and all accepted traces
+ *
+ * The answer, one number:
+ *    0  for 16, number of the first such record, from 0; else 0
+ *
+ * Accepted (0): the state has taken in every record. An empty trace is
+ * accepted and changes nothing, so it is also the way to check a state.
+ * Refused: every byte of the state is what it was.
+ *
+ * A state is 4,096 entries of 32 bytes: 32 zeros, or UUID (16), cancel mark
+ * (8) and reissue mark (8), both lowest byte first; a mark is 2^32 where no
+ * record of its kind has come, else 2^33 plus the latest time. Other bytes
+ * are no state. Where an entry stands is the library's own matter. A state
+ * may be kept in a file as it is: write a new file beside the old one and
+ * rename it, so that it is never half, and check it with an empty trace when
+ * it is read again. Nothing in a state is secret or authentic: who can write
+ * the file decides what it says.
+ *
+ * The state must not overlap the trace. The time taken grows with the number
+ * of records; UUIDs that were chosen to collide cost more time, and change no
+ * answer. The call takes at most 16 KB of stack.
+ */
+uint32_t talc_replay(uint8_t *state, size_t state_len,
+                     const uint8_t *trace, size_t trace_len,
+                     uint8_t answer[TALC_REPLAY_ANSWER]);
+
+/*
+ * Tells the standing of the login with these 16 bytes as its UUID.
+ *
+ * Refusal: 19, when state_len is not 131,072, or the entry at which the look-up
+ * of this UUID ends is none of a state. No other entry is checked;
+ * talc_replay() with an empty trace checks them all.
+ *
+ * The answer, five numbers by offset:
+ *    0  1 if the login is cancelled, else 0
+ *    8  1 if a cancel has come, else 0
+ *   16  time of the latest cancel, else 0
+ *   24  1 if a reissue has come, else 0
+ *   32  time of the latest reissue, else 0
+ *
+ * A UUID that never came, or refused: the answer is zero. Nothing else is
+ * written. The call takes at most 16 KB of stack.
+ */
+uint32_t talc_standing(const uint8_t *state, size_t state_len,
+                       const uint8_t uuid[16],
+                       uint8_t answer[TALC_STANDING_ANSWER]);
 
 #ifdef __cplusplus
 }

@@ -46,11 +46,13 @@ mod body;
 mod fields;
 pub mod raw;
 mod refusal;
+mod replay;
 mod safe;
 
 pub use body::{find, judge, Counts, Found};
 pub use fields::{append, fill_needed, walk, Cursor, Field, Value, END};
 pub use refusal::Refusal;
+pub use replay::{replay, standing, trace_record, Kind, Standing};
 pub use safe::{read, read_counted, write, Opened, Parts, Work};
 
 /// No file is longer, in bytes.
@@ -63,3 +65,9 @@ pub const PASSPHRASE_MAX: usize = 1024;
 pub const AROUND: usize = 200;
 /// The smallest number of iterations.
 pub const ITER_MIN: u32 = 2048;
+/// A state has this length, in bytes.
+pub const STATE_SIZE: usize = 131_072;
+/// A record of a trace has this length, in bytes.
+pub const TRACE_RECORD: usize = 32;
+/// A state holds at most this many UUIDs.
+pub const STATE_UUIDS: usize = 4096;

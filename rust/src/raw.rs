@@ -63,6 +63,23 @@ extern "C" {
         uuid: *const [u8; 16],
         answer: *mut [u8; 24],
     ) -> u32;
+
+    /// Takes a whole trace into a state.
+    pub fn talc_replay(
+        state: *mut u8,
+        state_len: usize,
+        trace: *const u8,
+        trace_len: usize,
+        answer: *mut [u8; 8],
+    ) -> u32;
+
+    /// Tells the standing of a login.
+    pub fn talc_standing(
+        state: *const u8,
+        state_len: usize,
+        uuid: *const [u8; 16],
+        answer: *mut [u8; 40],
+    ) -> u32;
 }
 
 /// The 8-byte numbers of an answer, in order. Missing bytes count as zero.

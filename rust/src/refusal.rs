@@ -1,6 +1,7 @@
 //! The refusals, in words.
 
 use core::fmt;
+use core::mem::discriminant;
 
 /// Why a call was refused. Prints its number, its meaning and what a person can do about it.
 ///
@@ -48,87 +49,115 @@ pub enum Refusal {
     EndData,
     /// 14: the field is cut or passes the end, or END with data.
     Field,
+    /// 16: the record with this number, from 0, is the first of the trace that is cut, of an unknown
+    /// kind, with a pad that is not zero, or of one UUID too many.
+    Trace(u64),
+    /// 19: the lent memory is no state.
+    State,
     /// A number that this crate does not know: the archive is newer than it.
     Other(u32),
 }
 
 use Refusal::*;
 
-/// Each refusal with its meaning and what to do about it; the first has number 1.
-const TABLE: [(Refusal, &str, &str); 14] = [
+/// A refusal's number, the refusal, its meaning and what to do about it.
+type Row = (u32, Refusal, &'static str, &'static str);
+
+const TABLE: [Row; 16] = [
     (
+        1,
         Length,
         "no safe has a file or body of this length",
         "take a whole file, or a body of 32 to 4,194,096 bytes in blocks of 16",
     ),
-    (Passphrase, "the passphrase is over 1,024 bytes", "take a shorter one"),
+    (2, Passphrase, "the passphrase is over 1,024 bytes", "take a shorter one"),
     (
+        3,
         Room,
         "the lent memory is too short, or the field ends past the longest body",
         "lend more, or keep less in one safe",
     ),
-    (Tag, "this is no Password Safe V3 file", "choose a .psafe3 file"),
+    (4, Tag, "this is no Password Safe V3 file", "choose a .psafe3 file"),
     (
+        5,
         Iter,
         "the passphrase is stretched fewer than 2,048 times",
         "save the file with 2,048 or more",
     ),
     (
+        6,
         Ceiling,
         "stretching would take longer than the ceiling allows",
         "raise the ceiling if the file can be trusted",
     ),
-    (Marker, "the file is not whole", "copy it again"),
+    (7, Marker, "the file is not whole", "copy it again"),
     (
+        8,
         Wrong,
         "this is not the passphrase of the file",
         "type it again; if it is surely right, copy the file again",
     ),
     (
+        9,
         Body,
         "the body is damaged, or breaks a rule of the format",
         "take another copy, or mend the body",
     ),
-    (Collision, "an encrypted block equals the end marker", "write with another initial vector"),
-    (Place, "the place is no multiple of 16, or past the end", "start from the last answer"),
-    (Fill, "the fill is not exactly what the field needs", "give the number of bytes it needs"),
-    (EndData, "an END field cannot have data", "give it none"),
-    (Field, "the field is cut, or is an END with data", "take the file's own body"),
+    (
+        10,
+        Collision,
+        "an encrypted block equals the end marker",
+        "write with another initial vector",
+    ),
+    (11, Place, "the place is no multiple of 16, or past the end", "start from the last answer"),
+    (12, Fill, "the fill is not exactly what the field needs", "give the number of bytes it needs"),
+    (13, EndData, "an END field cannot have data", "give it none"),
+    (14, Field, "the field is cut, or is an END with data", "take the file's own body"),
+    (16, Trace(0), "a record of the trace is at fault", "copy the trace again"),
+    (
+        19,
+        State,
+        "this is no state",
+        "take the last whole copy, or a fresh one and all traces again",
+    ),
 ];
 
 impl Refusal {
     /// The number, as the library returns it.
     pub fn number(self) -> u32 {
-        match (self, TABLE.iter().position(|row| row.0 == self)) {
-            (Other(number), _) => number,
-            (_, row) => row.map_or(0, |row| row as u32 + 1),
+        match self {
+            Other(number) => number,
+            _ => self.row().map_or(0, |row| row.0),
         }
     }
 
-    /// The refusal with that number; none for 0.
+    /// The refusal with that number; none for 0. The number 16 alone does not tell the record: it
+    /// gives record 0.
     ///
     /// ```
     /// use talcfeather::Refusal;
     /// assert_eq!(Refusal::from_number(7), Some(Refusal::Marker));
+    /// assert_eq!(Refusal::from_number(15), Some(Refusal::Other(15)));
     /// assert_eq!(Refusal::from_number(0), None);
     /// ```
     pub fn from_number(number: u32) -> Option<Refusal> {
-        let row = number.checked_sub(1)? as usize;
-        Some(TABLE.get(row).map_or(Other(number), |row| row.0))
+        let row = TABLE.iter().find(|row| row.0 == number);
+        (number != 0).then(|| row.map_or(Other(number), |row| row.1))
     }
 
-    fn row(self) -> Option<&'static (Refusal, &'static str, &'static str)> {
-        TABLE.iter().find(|row| row.0 == self)
+    /// By the variant alone: a record's number is not in the table.
+    fn row(self) -> Option<&'static Row> {
+        TABLE.iter().find(|row| discriminant(&row.1) == discriminant(&self))
     }
 
     /// What is wrong.
     pub fn meaning(self) -> &'static str {
-        self.row().map_or("a refusal that this program does not know", |row| row.1)
+        self.row().map_or("a refusal that this program does not know", |row| row.2)
     }
 
     /// What a person can do about it.
     pub fn advice(self) -> &'static str {
-        self.row().map_or("use a newer version of this program", |row| row.2)
+        self.row().map_or("use a newer version of this program", |row| row.3)
     }
 
     /// The outcome for a number that a call returned.
@@ -139,7 +168,11 @@ impl Refusal {
 
 impl fmt::Display for Refusal {
     fn fmt(&self, f: &mut fmt::Formatter<'_>) -> fmt::Result {
-        write!(f, "{}: {}: {}", self.number(), self.meaning(), self.advice())
+        write!(f, "{}: {}", self.number(), self.meaning())?;
+        if let Trace(record) = self {
+            write!(f, ", number {record}")?;
+        }
+        write!(f, ": {}", self.advice())
     }
 }
 

@@ -3,17 +3,28 @@
 use std::path::{Path, PathBuf};
 use std::process::Command;
 
-fn compiled(source: &str, name: &str) -> PathBuf {
+const C99: [&str; 1] = ["-std=c99"];
+const CPP: [&str; 3] = ["-std=c++11", "-x", "c++"];
+
+fn compiled(language: &[&str], source: &str, name: &str) -> PathBuf {
     let root = Path::new(env!("CARGO_MANIFEST_DIR")).join("..");
     let program = Path::new(env!("CARGO_TARGET_TMPDIR")).join(name);
     let status = Command::new("gcc")
         .current_dir(&root)
-        .args(["-std=c99", "-Wall", "-Wextra", "-Wpedantic", "-Werror", "-O2", "-Iinclude", source])
-        .args(["target/staticlib/libtalcfeather.a", "-o"])
+        .args(["-Wall", "-Wextra", "-Wpedantic", "-Werror", "-O2", "-Iinclude"])
+        .args(language)
+        .args([source, "-x", "none", "target/staticlib/libtalcfeather.a", "-o"])
         .arg(&program)
         .status();
     assert!(status.expect("gcc").success(), "{source} compiles");
     program
+}
+
+/// Whether gcc has its compiler for C++, which the rest does not need.
+fn has_cpp() -> bool {
+    let found = Command::new("gcc").arg("-print-prog-name=cc1plus").output().expect("gcc").stdout;
+    // Without one, gcc answers the bare name.
+    String::from_utf8(found).unwrap().contains('/')
 }
 
 fn run(program: &Path, arguments: &[&str]) -> (i32, String) {
@@ -24,13 +35,18 @@ fn run(program: &Path, arguments: &[&str]) -> (i32, String) {
 
 #[test]
 fn every_call() {
-    let program = compiled("rust/tests/header.c", "header");
-    assert_eq!(run(&program, &[]), (0, "1 1 0 11 3 12 9 9 \n".to_string()));
+    let told = "1 1 0 11 3 12 9 9 19 19 0 16 0 0 0 1 1 5 0 0 16 1\n".to_string();
+    let program = compiled(&C99, "rust/tests/header.c", "header");
+    assert_eq!(run(&program, &[]), (0, told.clone()));
+    if has_cpp() {
+        let program = compiled(&CPP, "rust/tests/header.c", "header-cpp");
+        assert_eq!(run(&program, &[]), (0, told));
+    }
 }
 
 #[test]
 fn the_example() {
-    let program = compiled("examples/list.c", "list");
+    let program = compiled(&C99, "examples/list.c", "list");
     let (status, out) = run(&program, &["examples/floor.psafe3", "a whole floor of lathes"]);
     assert_eq!(status, 0);
     let logins = ["Lathe 3\tworker", "Mill 1, spindle\tworker", "Label printer\tprint"];

@@ -3,120 +3,15 @@
 mod common;
 
 use common::bodies::{data, join, part};
+use common::process::*;
 use peer::fields::END;
 use peer::random::Random;
-use peer::safe::{write, Parts};
 use std::fs;
 use std::io::{Read, Write};
 use std::os::unix::fs::PermissionsExt;
 use std::os::unix::process::CommandExt;
 use std::path::{Path, PathBuf};
 use std::process::{Command, Stdio};
-
-extern "C" {
-    fn setsid() -> i32;
-}
-
-/// A folder of this test's own, removed at its end.
-struct Folder(PathBuf);
-
-impl Folder {
-    fn new(name: &str) -> Folder {
-        let name = format!("talc-{name}-{}", std::process::id());
-        let folder = std::env::temp_dir().join(name);
-        fs::create_dir_all(&folder).unwrap();
-        Folder(folder)
-    }
-
-    fn put(&self, name: &str, bytes: &[u8]) -> PathBuf {
-        let path = self.0.join(name);
-        fs::write(&path, bytes).unwrap();
-        path
-    }
-
-    fn names(&self) -> Vec<String> {
-        let entries = fs::read_dir(&self.0).unwrap();
-        let mut names: Vec<String> =
-            entries.map(|e| e.unwrap().file_name().into_string().unwrap()).collect();
-        names.sort();
-        names
-    }
-}
-
-impl Drop for Folder {
-    fn drop(&mut self) {
-        let _ = fs::remove_dir_all(&self.0);
-    }
-}
-
-struct Ended {
-    status: i32,
-    out: String,
-    err: String,
-}
-
-/// Runs talc without a terminal, with that standard input.
-fn talc(arguments: &[&str], stdin: &[u8]) -> Ended {
-    let mut command = Command::new(env!("CARGO_BIN_EXE_talc"));
-    command.args(arguments).stdin(Stdio::piped()).stdout(Stdio::piped()).stderr(Stdio::piped());
-    // A session of its own has no terminal.
-    unsafe {
-        command
-            .pre_exec(|| if setsid() < 0 { Err(std::io::Error::last_os_error()) } else { Ok(()) })
-    };
-    let mut child = command.spawn().unwrap();
-    // It may end without having read its input.
-    let _ = child.stdin.take().unwrap().write_all(stdin);
-    let output = child.wait_with_output().unwrap();
-    let text = |bytes| String::from_utf8(bytes).unwrap();
-    let ended = Ended {
-        status: output.status.code().expect("no signal"),
-        out: text(output.stdout),
-        err: text(output.stderr),
-    };
-    assert!(!ended.err.contains("panicked"), "{}", ended.err);
-    assert!(ended.status == 0 || !ended.err.is_empty(), "a status without a word");
-    assert!(ended.err.lines().count() <= 2, "one clear line: {}", ended.err);
-    ended
-}
-
-const PASSPHRASE: &[u8] = b"floor 2";
-const UUID: &[u8] = b"\x01\x23\x45\x67\x89\xab\xcd\xef0123456\xff";
-
-fn body() -> Vec<u8> {
-    let fields = [
-        part(0x00, &[0x0e, 0x03]),
-        part(END, &[]),
-        part(0x01, UUID),
-        part(0x03, "Drehbank\t3\u{1b}[2J \\t ä".as_bytes()),
-        part(0x03 + 1, b"worker"),
-        part(0x02, b"Floor.Lathes"),
-        part(0x0a, &1_900_000_000u32.to_le_bytes()),
-        part(0x06, b"the password itself"),
-        part(0x0f, b"1ff0100000000013an old password"),
-        part(0x1b, b"two factor key"),
-        part(END, &[]),
-        part(0x06, b"another password"),
-        part(0x03, b"Printer"),
-        part(0x01, &[9; 16]),
-        part(END, &[]),
-    ];
-    join(&mut Random(1), &fields)
-}
-
-fn safe_around(body: &[u8], iter: u32) -> Vec<u8> {
-    let passphrase = PASSPHRASE.to_vec();
-    let parts = Parts { passphrase, salt: [1; 32], iter, k: [2; 32], l: [3; 32], iv: [4; 16] };
-    write(&parts, body, body.len() + 200).unwrap()
-}
-
-fn safe() -> Vec<u8> {
-    safe_around(&body(), 2048)
-}
-
-fn path(path: &Path) -> &str {
-    path.to_str().unwrap()
-}
 
 #[test]
 fn check() {
@@ -346,6 +241,15 @@ fn wrong_arguments() {
         vec!["find", "f"],
         vec!["resave", "f"],
         vec!["resave", "f", "g", "h"],
+        vec!["replay"],
+        vec!["replay", "s"],
+        vec!["replay", "s", "t", "--passphrase-stdin"],
+        vec!["replay", "s", "t", "--passphrase-file", "g"],
+        vec!["replay", "s", "t", "--ceiling", "5000"],
+        vec!["replay", "s", "t", "--state", "s"],
+        vec!["check", "f", "--state", "s"],
+        vec!["fields", "f", "--state=s"],
+        vec!["list", "f", "--state"],
         vec!["check", "f", "--loud"],
         vec!["check", "f", "--ceiling"],
         vec!["check", "f", "--ceiling", "many"],
@@ -401,6 +305,9 @@ fn help_and_version() {
         let ended = talc(&arguments, b"");
         assert_eq!(ended.status, 0);
         assert!(ended.out.contains("talc resave FILE OUT") && ended.out.contains("--ceiling N"));
+        assert!(
+            ended.out.contains("talc replay STATE TRACE..") && ended.out.contains("--state STATE")
+        );
         assert!(ended.out.lines().all(|line| line.len() <= 80), "fits a terminal");
     }
     assert!(talc(&["--version"], b"").out.starts_with("talc "));

@@ -1,4 +1,4 @@
-//! An independent implementation of the V3 safe file, written for the tests alone.
+//! An independent implementation of the V3 safe file and of replay, written for the tests alone.
 //!
 //! It shares no code with the proved library. It is plain and allocates freely;
 //! the tests compare its answers with the library's.
@@ -9,6 +9,7 @@ pub mod fields;
 pub mod hmac;
 pub mod json;
 pub mod random;
+pub mod replay;
 pub mod safe;
 pub mod saved;
 pub mod sha256;

@@ -2,6 +2,7 @@
 
 use peer::body::judge;
 use peer::fields::{append, size, walk, Cursor, Value};
+use peer::replay::{Accepted, Standing};
 use peer::safe::{read, write};
 use peer::saved::{files, listing_of};
 use peer::stretch::stretch;
@@ -73,4 +74,66 @@ fn files_saved_by_other_programs() {
         let again = write(&saved.parts(&opened), &opened.body, saved.file.len());
         assert!(again == Ok(saved.file), "{}", saved.name);
     }
+}
+
+fn record(uuid: u8, time: u8, kind: u8) -> Vec<u8> {
+    [&[uuid; 16][..], &[time, 0, 0, 0, kind], &[0; 11]].concat()
+}
+
+/// Each row of times and kinds in both directions: whether it leaves the login cancelled.
+#[test]
+fn standings_of_a_login() {
+    let rows: [(&[(u8, u8)], bool); 9] = [
+        (&[], false),
+        (&[(5, 1)], false),
+        (&[(5, 2)], true),
+        (&[(5, 3)], false),
+        (&[(5, 2), (4, 3)], true),
+        (&[(5, 2), (5, 3)], true),
+        (&[(5, 2), (6, 3)], false),
+        (&[(5, 2), (6, 1)], true),
+        (&[(5, 2), (6, 3), (7, 2), (4, 3)], true),
+    ];
+    for (row, cancelled) in rows {
+        let forth: Vec<_> = row.iter().map(|(time, kind)| record(1, *time, *kind)).collect();
+        let back: Vec<_> = forth.iter().rev().cloned().collect();
+        for records in [forth, back] {
+            let mut accepted = Accepted::default();
+            assert_eq!(accepted.take(&record(2, 9, 2)), Ok(()));
+            assert_eq!(accepted.take(&records.concat()), Ok(()));
+            assert_eq!(accepted.standing(&[1; 16]).cancelled, cancelled, "{row:?}");
+            let other = Standing { cancelled: true, cancel: Some(9), reissue: None };
+            assert_eq!(accepted.standing(&[2; 16]), other);
+        }
+    }
+}
+
+#[test]
+fn records_at_fault() {
+    let good = record(1, 5, 2);
+    let mut padded = good.clone();
+    padded[31] = 1;
+    let cases = [
+        (vec![record(1, 5, 0)], 0),
+        (vec![good.clone(), record(1, 5, 4)], 1),
+        (vec![good.clone(), padded.clone(), record(1, 5, 4)], 1),
+        (vec![good.clone(), good.clone(), good[..31].to_vec()], 2),
+        (vec![padded, good[..1].to_vec()], 0),
+    ];
+    for (records, number) in cases {
+        let mut accepted = Accepted::default();
+        assert_eq!(accepted.take(&records.concat()), Err(number));
+        assert!(accepted.0.is_empty());
+    }
+}
+
+#[test]
+fn one_uuid_too_many() {
+    let edit = |i: u16| [&i.to_le_bytes()[..], &[0; 18], &[1], &[0; 11]].concat();
+    let mut accepted = Accepted::default();
+    let full: Vec<u8> = (0..4096).flat_map(edit).collect();
+    assert_eq!(accepted.take(&[&full[..], &edit(4096)].concat()), Err(4096));
+    assert_eq!(accepted.take(&full), Ok(()));
+    assert_eq!(accepted.take(&[edit(4095), edit(4096)].concat()), Err(1));
+    assert_eq!((accepted.0.len(), accepted.uuids().len()), (4096, 4096));
 }

@@ -253,9 +253,43 @@ pub fn find_theirs(body: &[u8], uuid: &[u8; 16]) -> Outcome {
     Outcome { number, answer: bytes_of(&numbers), memory: Vec::new() }
 }
 
+pub fn replay_ours(state: &[u8], trace: &[u8], random: &mut Random) -> Outcome {
+    let mut state = Guarded::new(random, state);
+    let trace = Guarded::new(random, trace);
+    let mut answer = Guarded::junk(random, 8);
+    let number = unsafe {
+        let (length, start) = (state.len(), state.pointer_mut());
+        let answer = answer.pointer_mut().cast();
+        raw::talc_replay(start, length, trace.pointer(), trace.len(), answer)
+    };
+    trace.unchanged();
+    Outcome { number, answer: answer.content(), memory: state.content() }
+}
+
+pub fn standing_ours(state: &[u8], uuid: &[u8; 16], random: &mut Random) -> Outcome {
+    let state = Guarded::new(random, state);
+    let uuid = Guarded::new(random, uuid);
+    let mut answer = Guarded::junk(random, 40);
+    let number = unsafe {
+        let (uuid, answer) = (uuid.pointer().cast(), answer.pointer_mut().cast());
+        raw::talc_standing(state.pointer(), state.len(), uuid, answer)
+    };
+    state.unchanged();
+    uuid.unchanged();
+    Outcome { number, answer: answer.content(), memory: Vec::new() }
+}
+
+pub fn standing_theirs(accepted: &peer::replay::Accepted, uuid: &[u8; 16]) -> Outcome {
+    let standing = accepted.standing(uuid);
+    let [cancel, reissue] = [standing.cancel, standing.reissue]
+        .map(|time| [time.is_some().into(), time.unwrap_or(0).into()]);
+    let numbers = [&[standing.cancelled.into()][..], &cancel, &reissue].concat();
+    Outcome { number: 0, answer: bytes_of(&numbers), memory: Vec::new() }
+}
+
 /// How often each number was answered; a test asks that each was met.
 #[derive(Default)]
-pub struct Met([u32; 16]);
+pub struct Met([u32; 20]);
 
 impl Met {
     /// Compares, and counts the number.

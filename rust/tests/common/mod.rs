@@ -5,3 +5,5 @@
 pub mod bodies;
 pub mod calls;
 pub mod guarded;
+pub mod process;
+pub mod traces;

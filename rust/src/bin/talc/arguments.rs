@@ -11,6 +11,8 @@ talc reads Password Safe V3 files.
   talc check FILE         says whether the file is accepted, and what it holds
   talc list FILE          one line a login: title, user, group, expiry (UTC);
                           aligned on a terminal, else with tabs between
+  talc list FILE --state STATE
+                          the same with a fifth column: cancelled, or nothing
   talc fields FILE        every field: place, type, length, kind of value, and
                           value; UUIDs are among them
   talc find FILE UUID     the record with that UUID, and its fields
@@ -18,6 +20,14 @@ talc reads Password Safe V3 files.
                           says whether it is byte for byte the same; OUT is
                           replaced if it is there, by a new file of mode 0600
                           that is renamed over it
+  talc replay STATE TRACE..
+                          takes traces into the state file STATE, in the order
+                          given: for each, accepted with the number of records
+                          and the logins that are now cancelled or open again,
+                          or refused with the first record at fault, from 0,
+                          and why. A refused trace changes nothing; the others
+                          are taken. STATE is made if it is not there, else
+                          replaced as OUT is, and only if it is a regular file
 
 Passwords, their history, two-factor keys, card data and QR codes are never
 shown.
@@ -26,16 +36,18 @@ shown.
   --passphrase-stdin      takes the passphrase from standard input
                           (of both, one final newline is no part of it; without
                           either, the terminal asks, and shows nothing typed)
+  --state STATE           with list: the state file to take standings from
   --ceiling N             refuses files that stretch the passphrase more than N
                           times; 16777216 if not given, which takes some seconds
   --help, --version
   --                      what follows is no option
                           (a value may also follow its option after =)
 
-Exit status: 0; 1 to 14, the number of the refusal; 64 wrong arguments;
-66 a file can't be read; 67 no record has that UUID; 70 written again, the file
-differs; 73 OUT can't be written; 74 standard output can't be written to, though
-a pipe that its reader has closed is no error; 77 given up at the passphrase.
+Exit status: 0; 1 to 14, the number of the refusal; 16 a trace was refused;
+19 STATE is no state, or not whole; 64 wrong arguments; 66 a file can't be read;
+67 no record has that UUID; 70 written again, the file differs; 73 OUT or STATE
+can't be written; 74 standard output can't be written to, though a pipe that its
+reader has closed is no error; 77 given up at the passphrase.
 ";
 
 /// Four times the largest number that Password Safe itself offers to set.
@@ -55,6 +67,7 @@ pub enum Command {
     Fields,
     Find([u8; 16]),
     Resave(PathBuf),
+    Replay(Vec<PathBuf>),
 }
 
 pub struct Arguments {
@@ -62,6 +75,7 @@ pub struct Arguments {
     pub file: PathBuf,
     pub source: Source,
     pub ceiling: u32,
+    pub state: Option<PathBuf>,
 }
 
 /// 32 hex digits, as stored, with or without hyphens.
@@ -94,6 +108,7 @@ struct Sorted {
     passphrase_file: Option<OsString>,
     passphrase_stdin: bool,
     ceiling: Option<OsString>,
+    state: Option<OsString>,
     help: bool,
     version: bool,
 }
@@ -123,6 +138,7 @@ impl Sorted {
                 b"--passphrase-file" => sorted.passphrase_file = Some(value()?),
                 b"--passphrase-stdin" => sorted.passphrase_stdin = true,
                 b"--ceiling" => sorted.ceiling = Some(value()?),
+                b"--state" => sorted.state = Some(value()?),
                 b"--help" | b"-h" => sorted.help = true,
                 b"--version" => sorted.version = true,
                 b"--" => sorted.words.extend(arguments.by_ref()),
@@ -146,6 +162,19 @@ impl Sorted {
             (None, false) => Ok(Source::Terminal),
         }
     }
+
+    /// Refuses an option that the command would leave unused.
+    fn fits(&self, command: &Command) -> Result<(), Trouble> {
+        let opens = self.passphrase_file.is_some() || self.passphrase_stdin;
+        match command {
+            Command::Help | Command::Version | Command::List => Ok(()),
+            _ if self.state.is_some() => Err(Trouble::usage("--state goes with list alone")),
+            Command::Replay(_) if opens || self.ceiling.is_some() => {
+                Err(Trouble::usage("replay opens no safe: no passphrase, no ceiling"))
+            }
+            _ => Ok(()),
+        }
+    }
 }
 
 fn command(words: &[OsString]) -> Result<Command, Trouble> {
@@ -154,6 +183,7 @@ fn command(words: &[OsString]) -> Result<Command, Trouble> {
         "check" | "list" | "fields" => (2, "FILE"),
         "find" => (3, "FILE and UUID"),
         "resave" => (3, "FILE and OUT"),
+        "replay" => (words.len().max(3), "STATE and one or more TRACEs"),
         "" => return Err(Trouble::usage("no command given")),
         _ => return Err(Trouble::usage(format!("there is no command {name}"))),
     };
@@ -165,6 +195,7 @@ fn command(words: &[OsString]) -> Result<Command, Trouble> {
         "list" => Command::List,
         "fields" => Command::Fields,
         "find" => Command::Find(uuid(&words[2])?),
+        "replay" => Command::Replay(words[2..].iter().map(PathBuf::from).collect()),
         _ => Command::Resave((&words[2]).into()),
     })
 }
@@ -177,11 +208,13 @@ impl Arguments {
             (_, true) => Command::Version,
             _ => command(&sorted.words)?,
         };
+        sorted.fits(&command)?;
         Ok(Arguments {
             command,
             file: sorted.words.get(1).map(PathBuf::from).unwrap_or_default(),
             source: sorted.source()?,
             ceiling: sorted.ceiling.as_ref().map_or(Ok(CEILING), number)?,
+            state: sorted.state.map(PathBuf::from),
         })
     }
 }

@@ -3,24 +3,33 @@
 use crate::arguments::{Arguments, Command, HELP};
 use crate::secret::Secret;
 use crate::trouble::Trouble;
-use crate::{files, names, passphrase, progress, show};
+use crate::{files, list, names, passphrase, progress, replay, show};
 use std::fmt::Write;
-use std::io::IsTerminal;
 use std::path::Path;
-use talcfeather::{Cursor, Field, Opened, Parts, Refusal, Value, Work, AROUND, END, FILE_MAX};
+use talcfeather::{Cursor, Field, Opened, Parts, Refusal, Work, AROUND, END, FILE_MAX};
 
-pub fn run(arguments: &Arguments) -> Result<String, Trouble> {
-    match arguments.command {
-        Command::Help => return Ok(HELP.to_string()),
-        Command::Version => return Ok(concat!("talc ", env!("CARGO_PKG_VERSION"), "\n").into()),
-        _ => {}
-    }
+/// What there is to say, and how the run ends after it is said.
+pub type Said = (String, Result<(), Trouble>);
+
+pub fn run(arguments: &Arguments) -> Result<Said, Trouble> {
+    let output = match &arguments.command {
+        Command::Help => HELP.to_string(),
+        Command::Version => concat!("talc ", env!("CARGO_PKG_VERSION"), "\n").into(),
+        Command::Replay(traces) => return replay::run(&arguments.file, traces),
+        _ => open(arguments)?,
+    };
+    Ok((output, Ok(())))
+}
+
+/// The commands that open a safe.
+fn open(arguments: &Arguments) -> Result<String, Trouble> {
     let path = &arguments.file;
     // One byte over the limit is enough for the refusal of longer files.
     let file = files::read(path, FILE_MAX + 1)?;
     let mut workspace = Secret(vec![0; file.len().saturating_sub(AROUND)]);
     let refused = |refusal: Refusal| Trouble::refused(path, refusal);
     could_be_opened(&file, &mut workspace.0).map_err(refused)?;
+    let state = arguments.state.as_deref().map(replay::load).transpose()?;
     let passphrase = passphrase::get(&arguments.source)?;
     let what = format!("stretching the passphrase{}", rounds(&file));
     let (outcome, work) = progress::during(&what, || {
@@ -29,7 +38,7 @@ pub fn run(arguments: &Arguments) -> Result<String, Trouble> {
     let opened = outcome.map_err(refused)?;
     match &arguments.command {
         Command::Check => Ok(check(path, &opened, work)),
-        Command::List => list(opened.body).map_err(refused),
+        Command::List => list::lines(opened.body, state.as_deref()).map_err(refused),
         Command::Find(uuid) => {
             find(opened.body, uuid).map_err(refused)?.ok_or_else(|| Trouble::no_record(path))
         }
@@ -65,7 +74,7 @@ fn check(path: &Path, opened: &Opened, work: Work) -> String {
 }
 
 /// Hands each field to the taker, with the number of its record or none in the header.
-fn each_field(
+pub fn each_field(
     body: &[u8],
     mut at: Cursor,
     mut take: impl FnMut(Option<u64>, Field) -> bool,
@@ -81,60 +90,6 @@ fn each_field(
         at = next;
     }
     Ok(())
-}
-
-/// Title, user, group, expiry.
-type Login = [String; 4];
-
-fn logins(body: &[u8]) -> Result<Vec<Login>, Refusal> {
-    let mut logins = Vec::new();
-    let mut login: [Option<String>; 4] = Default::default();
-    each_field(body, Cursor::START, |record, field| {
-        let column = match (record, field.kind) {
-            (None, _) => return true,
-            (_, 0x03) => 0,
-            (_, 0x04) => 1,
-            (_, 0x02) => 2,
-            (_, 0x0a) => 3,
-            (_, END) => {
-                logins.push(std::mem::take(&mut login).map(Option::unwrap_or_default));
-                return true;
-            }
-            _ => return true,
-        };
-        // The first field of a type counts.
-        login[column].get_or_insert_with(|| shown(&field, body));
-        true
-    })?;
-    Ok(logins)
-}
-
-/// A time of 0 means that the password does not expire.
-fn shown(field: &Field, body: &[u8]) -> String {
-    match field.value {
-        Value::Time(0) | Value::Empty => String::new(),
-        Value::Time(seconds) => show::day(seconds),
-        Value::Misshapen => "?".to_string(),
-        _ => show::text(field.data(body)),
-    }
-}
-
-fn list(body: &[u8]) -> Result<String, Refusal> {
-    let logins = logins(body)?;
-    let mut widths = [0; 4];
-    if std::io::stdout().is_terminal() {
-        for login in &logins {
-            widths = std::array::from_fn(|i| widths[i].max(login[i].chars().count() + 2));
-        }
-        return Ok(logins.iter().map(|login| aligned(login, widths)).collect());
-    }
-    Ok(logins.iter().map(|login| login.join("\t") + "\n").collect())
-}
-
-fn aligned(login: &Login, widths: [usize; 4]) -> String {
-    let columns = login.iter().zip(widths);
-    let line: String = columns.map(|(text, width)| format!("{text:width$}")).collect();
-    line.trim_end().to_string() + "\n"
 }
 
 fn field_line(field: &Field, in_record: bool, body: &[u8]) -> String {

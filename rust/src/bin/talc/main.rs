@@ -1,11 +1,13 @@
-//! `talc`: reads Password Safe V3 files at a terminal, over the proved library.
+//! `talc`: reads Password Safe V3 files and replays traces at a terminal, over the proved library.
 
 mod arguments;
 mod commands;
 mod files;
+mod list;
 mod names;
 mod passphrase;
 mod progress;
+mod replay;
 mod secret;
 mod show;
 mod trouble;
@@ -16,12 +18,12 @@ use trouble::Trouble;
 
 fn run() -> Result<(), Trouble> {
     let arguments = Arguments::read(std::env::args_os().skip(1))?;
-    let output = commands::run(&arguments)?;
+    let (output, ending) = commands::run(&arguments)?;
     let mut out = std::io::stdout().lock();
     // Not println!, which panics when nobody reads. A reader that has seen enough is no trouble.
     match out.write_all(output.as_bytes()).and_then(|()| out.flush()) {
         Err(error) if error.kind() != ErrorKind::BrokenPipe => Err(Trouble::output(error)),
-        _ => Ok(()),
+        _ => ending,
     }
 }
 

@@ -65,9 +65,8 @@ pub fn time(seconds: u32) -> String {
 }
 
 /// A UUID as it is stored.
-pub fn uuid(first: u64, second: u64) -> String {
-    let bytes = first.to_le_bytes().into_iter().chain(second.to_le_bytes());
-    bytes.map(|byte| format!("{byte:02x}")).collect()
+pub fn uuid(bytes: &[u8]) -> String {
+    bytes.iter().map(|byte| format!("{byte:02x}")).collect()
 }
 
 pub fn kind(value: Value) -> &'static str {
@@ -88,7 +87,7 @@ pub fn kind(value: Value) -> &'static str {
 /// What a field holds, if that has a form of its own.
 pub fn value(field: &Field, body: &[u8]) -> String {
     match field.value {
-        Value::Uuid(first, second) => uuid(first, second),
+        Value::Uuid(..) => uuid(field.data(body)),
         Value::Time(seconds) => time(seconds),
         Value::Number(number) => number.to_string(),
         Value::Flag(flag) => flag.to_string(),

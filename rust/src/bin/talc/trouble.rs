@@ -1,17 +1,22 @@
 //! All ways in which the program can end otherwise than well, with their exit status.
 
+use std::cmp::Ordering;
 use std::fmt;
 use std::io;
 use std::path::Path;
-use talcfeather::Refusal;
+use talcfeather::{Refusal, STATE_SIZE};
 
 #[derive(Debug)]
 pub enum Trouble {
     /// The library's refusal; the status is its number.
     Refused(String, Refusal),
+    /// 19: the file is no state, with its length.
+    NoState(String, usize),
+    /// 16: so many of so many traces were refused.
+    Traces(usize, usize),
     /// 64: the arguments.
     Usage(String),
-    /// 66: the safe or the passphrase can't be read.
+    /// 66: a safe, passphrase, state or trace can't be read.
     Input(String),
     /// 67: no record has that UUID.
     NoRecord(String),
@@ -28,6 +33,10 @@ pub enum Trouble {
 impl Trouble {
     pub fn refused(path: &Path, refusal: Refusal) -> Trouble {
         Trouble::Refused(path.display().to_string(), refusal)
+    }
+
+    pub fn no_state(path: &Path, length: usize) -> Trouble {
+        Trouble::NoState(path.display().to_string(), length)
     }
 
     pub fn usage(message: impl Into<String>) -> Trouble {
@@ -54,6 +63,8 @@ impl Trouble {
         match self {
             // Numbers of refusals are small; one that is not still must not look like success.
             Trouble::Refused(_, refusal) => u8::try_from(refusal.number()).unwrap_or(70),
+            Trouble::NoState(..) => 19,
+            Trouble::Traces(..) => 16,
             Trouble::Usage(_) => 64,
             Trouble::Input(_) => 66,
             Trouble::NoRecord(_) => 67,
@@ -78,12 +89,32 @@ fn advice(refusal: Refusal) -> &'static str {
     }
 }
 
+/// What is wrong with a state file of that length.
+fn no_state(length: usize) -> String {
+    match length.cmp(&STATE_SIZE) {
+        Ordering::Less => format!("it has {length} of {STATE_SIZE} bytes"),
+        Ordering::Equal => "its bytes are damaged".to_string(),
+        Ordering::Greater => format!("it has more than {STATE_SIZE} bytes"),
+    }
+}
+
 impl fmt::Display for Trouble {
     fn fmt(&self, f: &mut fmt::Formatter<'_>) -> fmt::Result {
         match self {
             Trouble::Refused(path, refusal) => {
                 let (number, meaning) = (refusal.number(), refusal.meaning());
                 write!(f, "{path}: refused, {number}: {meaning}: {}", advice(*refusal))
+            }
+            Trouble::NoState(path, length) => {
+                write!(f, "{path}: refused, 19: this is no state: {}: ", no_state(*length))?;
+                write!(f, "copy it again, or start a new one and replay all traces")
+            }
+            Trouble::Traces(refused, all) => {
+                write!(
+                    f,
+                    "refused, 16: {refused} of {all} traces; nothing of a refused trace is "
+                )?;
+                write!(f, "taken: copy it again and replay it")
             }
             Trouble::Usage(message) => write!(f, "{message}; try talc --help"),
             Trouble::GivenUp => write!(f, "given up"),

@@ -1,0 +1,123 @@
+//! How much stack replay and standing take: each runs on a painted stack of its own, and the paint
+//! that is left tells.
+
+mod common;
+
+use common::traces::*;
+use peer::random::Random;
+use std::ffi::c_void;
+use talcfeather::raw;
+
+const PAINT: u8 = 0xC5;
+/// What the header promises, in bytes.
+const MOST: usize = 16 * 1024;
+
+/// Room for the C library's `pthread_attr_t`, and more.
+type Attributes = [u64; 32];
+
+extern "C" {
+    fn pthread_attr_init(attributes: *mut Attributes) -> i32;
+    fn pthread_attr_setstack(attributes: *mut Attributes, stack: *mut u8, length: usize) -> i32;
+    fn pthread_attr_destroy(attributes: *mut Attributes) -> i32;
+    fn pthread_create(
+        thread: *mut usize,
+        attributes: *const Attributes,
+        start: extern "C" fn(*mut c_void) -> *mut c_void,
+        argument: *mut c_void,
+    ) -> i32;
+    fn pthread_join(thread: usize, result: *mut *mut c_void) -> i32;
+}
+
+/// A call, and where the stack stood before it.
+struct Task<'a> {
+    call: &'a mut dyn FnMut(),
+    stood: usize,
+}
+
+extern "C" fn start(task: *mut c_void) -> *mut c_void {
+    // Sound: the task outlives the thread, which `used_by` waits for.
+    let task = unsafe { &mut *task.cast::<Task>() };
+    let here = 0u8;
+    task.stood = std::hint::black_box(&here) as *const u8 as usize;
+    (task.call)();
+    std::ptr::null_mut()
+}
+
+/// A stack: whole pages, which some C libraries ask for.
+#[repr(align(4096))]
+struct Stack([u8; 256 * 1024]);
+
+/// Bytes of stack from the start of a thread down to the lowest that the call changed.
+fn used_by(call: &mut dyn FnMut()) -> usize {
+    let mut stack = Box::new(Stack([PAINT; 256 * 1024]));
+    let (bottom, length) = (stack.0.as_mut_ptr(), stack.0.len());
+    let mut task = Task { call, stood: 0 };
+    let (mut attributes, mut thread) = ([0; 32], 0);
+    unsafe {
+        assert_eq!(pthread_attr_init(&mut attributes), 0);
+        assert_eq!(pthread_attr_setstack(&mut attributes, bottom, length), 0);
+        let argument = (&mut task as *mut Task).cast();
+        assert_eq!(pthread_create(&mut thread, &attributes, start, argument), 0);
+        assert_eq!(pthread_join(thread, std::ptr::null_mut()), 0);
+        pthread_attr_destroy(&mut attributes);
+    }
+    let painted = stack.0.iter().take_while(|byte| **byte == PAINT).count();
+    assert!(painted > 0, "the stack was used up");
+    task.stood - (bottom as usize + painted)
+}
+
+#[inline(never)]
+fn takes<const N: usize>() {
+    std::hint::black_box(&mut [1u8; N]);
+}
+
+/// The measure itself: what a function is known to take is seen.
+#[test]
+fn the_paint_tells() {
+    assert!(used_by(&mut || {}) < 4096);
+    assert!((10_000..14_096).contains(&used_by(&mut takes::<10_000>)));
+    assert!(used_by(&mut takes::<{ MOST + 1 }>) > MOST);
+}
+
+fn replay_uses(state: &mut [u8], trace: &[u8], number: u32) {
+    let (mut answer, mut answered) = ([0; 8], 0);
+    let used = used_by(&mut || {
+        let (start, length) = (state.as_mut_ptr(), state.len());
+        answered =
+            unsafe { raw::talc_replay(start, length, trace.as_ptr(), trace.len(), &mut answer) };
+    });
+    assert_eq!(answered, number);
+    assert!(used <= MOST, "{used} bytes");
+}
+
+fn standing_uses(state: &[u8], uuid: &Uuid, number: u32) {
+    let (mut answer, mut answered) = ([0; 40], 0);
+    let used = used_by(&mut || {
+        answered = unsafe { raw::talc_standing(state.as_ptr(), state.len(), uuid, &mut answer) };
+    });
+    assert_eq!(answered, number);
+    assert!(used <= MOST, "{used} bytes");
+}
+
+/// Accepted and refused in each way, on fresh, full and damaged states.
+#[test]
+fn at_most_16_kb() {
+    let random = &mut Random(1);
+    let full: Vec<u8> = (0..4096).flat_map(|_| record(&random.array(), 5, CANCEL)).collect();
+    let long: Vec<u8> = full.repeat(5);
+    let more = [&full[..], &record(&[9; 16], 5, EDIT)].concat();
+    let mut state = vec![0; 131_072];
+    standing_uses(&state, &[9; 16], 0);
+    replay_uses(&mut state, &[], 0);
+    replay_uses(&mut state, &more, 16);
+    replay_uses(&mut state, &long[..32 * 4095], 0);
+    replay_uses(&mut state, &long, 0);
+    replay_uses(&mut state, &long[1..], 16);
+    replay_uses(&mut state, &more[..more.len() - 1], 16);
+    standing_uses(&state, &[9; 16], 0);
+    standing_uses(&state, &full[..16].try_into().unwrap(), 0);
+    standing_uses(&state[1..], &[9; 16], 19);
+    replay_uses(&mut state[1..], &long, 19);
+    state[131_071] = 0xff;
+    replay_uses(&mut state, &long, 19);
+}
