@@ -10,7 +10,7 @@ use lib.ListN.{length, take, drop, length-take, length-drop}
 use Rattle.words.specs.Numbers.{Bytes}
 use Rattle.replay.specs.Trace.{recordAt, countOf, fine}
 use Rattle.replay.specs.State.{placeOf, isState}
-use Rattle.replay.specs.Replay.{goesIn, recordedTo, then, judgedTo, left, replayOf, stateAfter}
+use Rattle.replay.specs.Replay.{goesIn, recordedTo, then, answeredTo, leftBy, replayOf, stateAfter}
 use Rattle.replay.specs.Waiting.{reservedTo, Reserves, sweptTo, Owned, AllOwned}
 use Rattle.replay.specs.Calls.{Replays}
 use Rattle.replay.specs.declared.Replayed.{Replayed}
@@ -22,38 +22,38 @@ use Rattle.replay.proofs.Passes.{AllGo, passed, tests-agree, settled, g
 use Rattle.replay.proofs.Swept.{swept-back, reserved-to}
 
 -- a fault stays
-stays : (s t : List ℕ) (m n k : ℕ) → judgedTo s t m ≡ Refused n → judgedTo s t (k + m) ≡ Refused n
-unfolding judgedTo
-stays s t m n zero h = let z : 0 + m ≡ m = omega arith in ap (judgedTo s t) z ∙ h
+stays : (s t : List ℕ) (m n k : ℕ) → answeredTo s t m ≡ Refused n → answeredTo s t (k + m) ≡ Refused n
+unfolding answeredTo
+stays s t m n zero h = let z : 0 + m ≡ m = omega arith in ap (answeredTo s t) z ∙ h
 stays s t m n (suc k) h =
     let z : suc k + m ≡ suc (k + m) = omega arith in
-    ap (judgedTo s t) z ∙ ap (λ (a : Replayed). then a (goesIn (recordedTo s t (k + m)) (recordAt t (k + m))) (k + m)) (stays s t m n k h)
+    ap (answeredTo s t) z ∙ ap (λ (a : Replayed). then a (goesIn (recordedTo s t (k + m)) (recordAt t (k + m))) (k + m)) (stays s t m n k h)
 
 module _ (s t : List ℕ) (i : isState s ≡ true) (b : Bytes t) where
   v : Tidy s
   v = is-tidy s i
 
-  all-accepted : (n : ℕ) → AllGo t b s v n → judgedTo s t n ≡ Accepted
-  unfolding judgedTo
+  all-accepted : (n : ℕ) → AllGo t b s v n → answeredTo s t n ≡ Accepted
+  unfolding answeredTo
   all-accepted zero g = refl
   all-accepted (suc n) g =
       let h : AllGo t b s v n = λ k l. g k (omega arith) in
       ap (λ (a : Replayed). then a (goesIn (recordedTo s t n) (recordAt t n)) n) (all-accepted n h)
       ∙ ap (λ (x : Bool). then Accepted x n) (tests-agree t b s v n h ∙ g n (omega arith))
 
-  fault : (n : ℕ) → AllGo t b s v n → goesIn (reservedTo s t n) (recordAt t n) ≡ false → judgedTo s t (suc n) ≡ Refused n
-  unfolding judgedTo
+  fault : (n : ℕ) → AllGo t b s v n → goesIn (reservedTo s t n) (recordAt t n) ≡ false → answeredTo s t (suc n) ≡ Refused n
+  unfolding answeredTo
   fault n g f =
       ap (λ (a : Replayed). then a (goesIn (recordedTo s t n) (recordAt t n)) n) (all-accepted n g)
       ∙ ap (λ (x : Bool). then Accepted x n) (tests-agree t b s v n g ∙ f)
 
-  answer-is : replayOf s t ≡ judgedTo s t (countOf t)
+  answer-is : replayOf s t ≡ answeredTo s t (countOf t)
   unfolding replayOf
   answer-is = rw i
 
-  after-is : {a : Replayed} → replayOf s t ≡ a → stateAfter s t ≡ left a s t
+  after-is : {a : Replayed} → replayOf s t ≡ a → stateAfter s t ≡ leftBy a s t
   unfolding stateAfter
-  after-is e = ap (λ (x : Replayed). left x s t) e
+  after-is e = ap (λ (x : Replayed). leftBy x s t) e
 
   module _ (n : ℕ) (y : List ℕ) (r : Reserves s t n y) where
     pub reserved-long : length y ≡ 131072
@@ -79,7 +79,7 @@ module _ (s t : List ℕ) (i : isState s ≡ true) (b : Bytes t) where
       }
 
       accepted : replayOf s t ≡ Accepted
-      accepted = answer-is ∙ ap (judgedTo s t) count ∙ all-accepted n (r .goes)
+      accepted = answer-is ∙ ap (answeredTo s t) count ∙ all-accepted n (r .goes)
 
       pub whole-accepted : (z : List ℕ) → z ≡ recordedTo y t (countOf t) → Replays s t Accepted z
       whole-accepted z e = record {
@@ -105,7 +105,7 @@ module _ (s t : List ℕ) (i : isState s ≡ true) (b : Bytes t) where
       refused : replayOf s t ≡ Refused n
       refused =
           let q : (countOf t - suc n) + suc n ≡ countOf t = omega (arith, low) in
-          answer-is ∙ ap (judgedTo s t) (sym q) ∙ stays s t (suc n) n (countOf t - suc n) (fault n (r .goes) stop)
+          answer-is ∙ ap (answeredTo s t) (sym q) ∙ stays s t (suc n) n (countOf t - suc n) (fault n (r .goes) stop)
 
       pub whole-refused : (z : List ℕ) → z ≡ sweptTo y 4096 → Replays s t (Refused n) z
       whole-refused z e = record {

@@ -8,24 +8,24 @@ use Rattle.words.proofs.ByteLaws.{bytes-take, bytes-drop}
 use Rattle.replay.specs.Trace.{Event, recordAt, countOf, eventOf, firstEvents, eventsOf}
 use Rattle.replay.specs.Acceptance.{good}
 use Rattle.replay.specs.State.{isState}
-use Rattle.replay.specs.Replay.{goesIn, withRecord, recordedTo, then, judgedTo, left, replayOf, stateAfter}
+use Rattle.replay.specs.Replay.{goesIn, withRecord, recordedTo, then, answeredTo, leftBy, replayOf, stateAfter}
 use Rattle.replay.specs.Calls.{Replays, Call, Calls, ifAccepted, accepted}
 use Rattle.replay.specs.declared.Replayed.{Replayed}
 use Rattle.replay.specs.declared.Replayed.the-variants.{Accepted, Refused, NotAState}
 use Rattle.replay.proofs.Tests.{no}
 use Rattle.replay.proofs.Tidy.{tidy-is}
 use Rattle.replay.proofs.Means.{Means, goes-admits, means-next}
-use Rattle.replay.proofs.Verdicts.{never, never-state, judged}
+use Rattle.replay.proofs.Verdicts.{never, never-state, verdict}
 
 module _ (s : List ℕ) (es : List Event) (t : List ℕ) (v : Means s es) (b : Bytes t) where
   part : (n : ℕ) → Bytes (recordAt t n)
   part n = bytes-take 32 (bytes-drop (32 * n) b)
 
   -- after n records the two verdicts agree, and as long as all are accepted the state means their events
-  agrees : (n : ℕ) → (judgedTo s t n ≡ judged es t n) × (judged es t n ≡ Accepted → Means (recordedTo s t n) (es ++ firstEvents t n))
-  unfolding judgedTo recordedTo judged firstEvents
+  agrees : (n : ℕ) → (answeredTo s t n ≡ verdict es t n) × (verdict es t n ≡ Accepted → Means (recordedTo s t n) (es ++ firstEvents t n))
+  unfolding answeredTo recordedTo verdict firstEvents
   agrees zero = (refl, λ e. rw (append-nil es) v)
-  agrees (suc n) = by (judged es t n) (agrees n .0) (agrees n .1)
+  agrees (suc n) = by (verdict es t n) (agrees n .0) (agrees n .1)
     where
       x : List ℕ
       x = recordedTo s t n
@@ -35,8 +35,8 @@ module _ (s : List ℕ) (es : List Event) (t : List ℕ) (v : Means s es) (b : B
           subst (Means (withRecord x (recordAt t n))) (append-assoc es (firstEvents t n) (eventOf (recordAt t n) ∷ []))
           (means-next x (es ++ firstEvents t n) (recordAt t n) m (part n) g)
 
-      by : (a : Replayed) → judgedTo s t n ≡ a → (a ≡ Accepted → Means x (es ++ firstEvents t n))
-          → (then (judgedTo s t n) (goesIn x (recordAt t n)) n ≡ then a (good es t n) n)
+      by : (a : Replayed) → answeredTo s t n ≡ a → (a ≡ Accepted → Means x (es ++ firstEvents t n))
+          → (then (answeredTo s t n) (goesIn x (recordAt t n)) n ≡ then a (good es t n) n)
           × (then a (good es t n) n ≡ Accepted → Means (withRecord x (recordAt t n)) (es ++ (firstEvents t n ++ (eventOf (recordAt t n) ∷ []))))
       by Accepted e m = (ap (λ (c : Replayed). then c (goesIn x (recordAt t n)) n) e ∙ ap (λ (g : Bool). then Accepted g n) same-test, go (good es t n) refl)
         where
@@ -50,16 +50,16 @@ module _ (s : List ℕ) (es : List Event) (t : List ℕ) (v : Means s es) (b : B
       by NotAState e m = (ap (λ (c : Replayed). then c (goesIn x (recordAt t n)) n) e, λ h. never-state h)
 
   -- the answer is the verdict over the events
-  pub replay-judges : replayOf s t ≡ judged es t (countOf t)
+  pub replay-judges : replayOf s t ≡ verdict es t (countOf t)
   unfolding replayOf
-  replay-judges = ap (λ (g : Bool). cond g (judgedTo s t (countOf t)) NotAState) (tidy-is s (v .sound .state)) ∙ agrees (countOf t) .0
+  replay-judges = ap (λ (g : Bool). cond g (answeredTo s t (countOf t)) NotAState) (tidy-is s (v .sound .state)) ∙ agrees (countOf t) .0
 
   -- and the state means the events of what was accepted
   pub replay-means : Means (stateAfter s t) (es ++ ifAccepted (replayOf s t) (eventsOf t))
   unfolding stateAfter
   replay-means = by (replayOf s t) replay-judges
     where
-      by : (a : Replayed) → a ≡ judged es t (countOf t) → Means (left a s t) (es ++ ifAccepted a (eventsOf t))
+      by : (a : Replayed) → a ≡ verdict es t (countOf t) → Means (leftBy a s t) (es ++ ifAccepted a (eventsOf t))
       by Accepted e = agrees (countOf t) .1 (sym e)
       by (Refused n) e = rw (append-nil es) v
       by NotAState e = rw (append-nil es) v

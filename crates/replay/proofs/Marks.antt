@@ -9,7 +9,7 @@ use borrow.Author.Tests.{eq-eqb, ne-eqb}
 use Rattle.words.specs.Slices.{same}
 use Rattle.words.proofs.SliceLaws.{same-refl}
 use Rattle.replay.specs.Trace.{Event}
-use Rattle.replay.specs.Cancelled.{In, Among, IsLatest, Cancelled, Alike, AlikeButEdits}
+use Rattle.replay.specs.Cancelled.{In, Held, IsLatest, Cancelled, Alike, AlikeButEdits}
 use Rattle.replay.specs.State.{markOf}
 use Rattle.replay.proofs.Tests.{eq-or-ne, alike-or-not, differ}
 
@@ -80,7 +80,7 @@ mark-held k u (x ∷ es) =
 
 -- a mark of 2^33 or more is that of the latest event of its kind; a smaller one says that there is none
 module _ (k : ℕ) (u : List ℕ) (es : List Event) where
-  bound : (e : Event) → Among k u es e → 8589934592 + e .time ≤ markIn k u es
+  bound : (e : Event) → Held k u es e → 8589934592 + e .time ≤ markIn k u es
   bound e a = omega (arith, of-kind k e (a .is), mark-bounds k u es e (a .held) (a .of))
 
   pub mark-latest : 8589934592 ≤ markIn k u es → (x : ℕ) → 8589934592 + x ≡ markIn k u es → IsLatest k u es x
@@ -92,25 +92,25 @@ module _ (k : ℕ) (u : List ℕ) (es : List Event) where
           let i : e .kind ≡ k = ⊎-elim (λ q. q) (λ n. absurd (omega (arith, of-other k e n, h .mark))) (eq-or-ne (e .kind) k) in
           record {
             event = e;
-            among = record { held = h .held; of = h .of; is = i };
+            held = record { held = h .held; of = h .of; is = i };
             time = omega (arith, of-kind k e i, h .mark);
             none-later = λ y g. omega (arith, bound y g);
           }
 
   pub latest-mark : (x : ℕ) → IsLatest k u es x → markIn k u es ≡ 8589934592 + x
-  latest-mark x m = ⊎-elim (λ z. absurd (omega (arith, bound (m .event) (m .among)))) by (mark-held k u es)
+  latest-mark x m = ⊎-elim (λ z. absurd (omega (arith, bound (m .event) (m .held)))) by (mark-held k u es)
     where
       by : Holder k u es (markIn k u es) → markIn k u es ≡ 8589934592 + x
       by h =
           ⊎-elim
-          (λ i. omega (arith, bound (m .event) (m .among), m .time, h .mark, of-kind k (h .event) i, m .none-later (h .event) (record { held = h .held; of = h .of; is = i })))
-          (λ n. absurd (omega (arith, bound (m .event) (m .among), h .mark, of-other k (h .event) n)))
+          (λ i. omega (arith, bound (m .event) (m .held), m .time, h .mark, of-kind k (h .event) i, m .none-later (h .event) (record { held = h .held; of = h .of; is = i })))
+          (λ n. absurd (omega (arith, bound (m .event) (m .held), h .mark, of-other k (h .event) n)))
           (eq-or-ne (h .event .kind) k)
 
-  pub mark-none : markIn k u es < 8589934592 → (e : Event) → Among k u es e → ⊥
+  pub mark-none : markIn k u es < 8589934592 → (e : Event) → Held k u es e → ⊥
   mark-none l e a = omega (arith, bound e a)
 
-  pub none-mark : ((e : Event) → Among k u es e → ⊥) → markIn k u es < 8589934592
+  pub none-mark : ((e : Event) → Held k u es e → ⊥) → markIn k u es < 8589934592
   none-mark n = ⊎-elim (λ z. omega arith) by (mark-held k u es)
     where
       by : Holder k u es (markIn k u es) → markIn k u es < 8589934592
@@ -121,7 +121,7 @@ module _ (k : ℕ) (u : List ℕ) (es : List Event) where
           (eq-or-ne (h .event .kind) k)
 
   -- no event of kind k is later than x: nor is the mark greater than that of x
-  pub mark-at-most : (x : ℕ) → ((e : Event) → Among k u es e → e .time ≤ x) → markIn k u es ≤ 8589934592 + x
+  pub mark-at-most : (x : ℕ) → ((e : Event) → Held k u es e → e .time ≤ x) → markIn k u es ≤ 8589934592 + x
   mark-at-most x f = ⊎-elim (λ z. omega arith) by (mark-held k u es)
     where
       by : Holder k u es (markIn k u es) → markIn k u es ≤ 8589934592 + x
@@ -153,14 +153,14 @@ pub marks-alike : (k : ℕ) (u : List ℕ) (es fs : List Event) → Alike es fs 
 marks-alike k u es fs a = omega (arith, marks-within k u es fs (a .to), marks-within k u fs es (a .from))
 
 -- a cancel than which no reissue is later: some cancel is the latest
-pub cancelled-by : (u : List ℕ) (es : List Event) (e : Event) → Among 2 u es e → ((x : Event) → Among 3 u es x → x .time ≤ e .time) → Cancelled u es
+pub cancelled-by : (u : List ℕ) (es : List Event) (e : Event) → Held 2 u es e → ((x : Event) → Held 3 u es x → x .time ≤ e .time) → Cancelled u es
 cancelled-by u es e a f = marks-cancelled u es (omega (arith, bound 2 u es e a)) (omega (arith, bound 2 u es e a, mark-at-most 3 u es (e .time) f))
 
 module _ (es fs : List Event) (h : AlikeButEdits es fs) (u : List ℕ) where
-  to : (k : ℕ) → (k ≡ 1 → ⊥) → (e : Event) → Among k u es e → Among k u fs e
+  to : (k : ℕ) → (k ≡ 1 → ⊥) → (e : Event) → Held k u es e → Held k u fs e
   to k n e a = record { held = h .to e (λ q. n (sym (a .is) ∙ q)) (a .held); of = a .of; is = a .is }
 
-  from : (k : ℕ) → (k ≡ 1 → ⊥) → (e : Event) → Among k u fs e → Among k u es e
+  from : (k : ℕ) → (k ≡ 1 → ⊥) → (e : Event) → Held k u fs e → Held k u es e
   from k n e a = record { held = h .from e (λ q. n (sym (a .is) ∙ q)) (a .held); of = a .of; is = a .is }
 
 pub cancelled-but-edits : (u : List ℕ) (es fs : List Event) → AlikeButEdits es fs → Cancelled u es → Cancelled u fs
@@ -169,7 +169,7 @@ cancelled-but-edits u es fs h c =
       last = c .last;
       cancel = record {
         event = c .cancel .event;
-        among = to es fs h u 2 (λ q. omega arith) (c .cancel .event) (c .cancel .among);
+        held = to es fs h u 2 (λ q. omega arith) (c .cancel .event) (c .cancel .held);
         time = c .cancel .time;
         none-later = λ e a. c .cancel .none-later e (from es fs h u 2 (λ q. omega arith) e a);
       };

@@ -10,7 +10,7 @@ use Rattle.replay.specs.Trace.{Event, recordAt, countOf, fine, eventsOf}
 use Rattle.replay.specs.Cancelled.{In}
 use Rattle.replay.specs.Acceptance.{distinct}
 use Rattle.replay.specs.State.{fresh}
-use Rattle.replay.specs.Calls.{Replays, Stands, Call, Calls, ifAccepted, accepted, AllAccepted, OneOf}
+use Rattle.replay.specs.Calls.{Replays, Stands, Call, Calls, ifAccepted, accepted, AllAccepted, TraceOf}
 use Rattle.replay.specs.declared.Replayed.{Replayed}
 use Rattle.replay.specs.declared.Replayed.the-variants.{Accepted, Refused, NotAState}
 use Rattle.replay.specs.declared.Stood.{Stood}
@@ -41,17 +41,17 @@ none-in : (e : Event) → In e [] → ⊥
 unfolding In
 none-in e i = i
 
-head : (c : Call) (cs : List Call) → OneOf (c .trace) (c ∷ cs)
-unfolding OneOf
+head : (c : Call) (cs : List Call) → TraceOf (c .trace) (c ∷ cs)
+unfolding TraceOf
 head c cs = inl refl
 
-tail : (t : List ℕ) (c : Call) (cs : List Call) → OneOf t cs → OneOf t (c ∷ cs)
-unfolding OneOf
+tail : (t : List ℕ) (c : Call) (cs : List Call) → TraceOf t cs → TraceOf t (c ∷ cs)
+unfolding TraceOf
 tail t c cs o = inr o
 
 -- what an accepted trace says is held
-one-held : (cs : List Call) → AllAccepted cs → (t : List ℕ) → OneOf t cs → (e : Event) → In e (eventsOf t) → In e (accepted cs)
-unfolding AllAccepted OneOf accepted
+one-held : (cs : List Call) → AllAccepted cs → (t : List ℕ) → TraceOf t cs → (e : Event) → In e (eventsOf t) → In e (accepted cs)
+unfolding AllAccepted TraceOf accepted
 one-held [] a t o e i = absurd o
 one-held (c ∷ cs) a t o e i =
     ⊎-elim
@@ -65,7 +65,7 @@ if-accepted Accepted e es i = i
 if-accepted (Refused n) e es i = absurd (none-in e i)
 if-accepted NotAState e es i = absurd (none-in e i)
 
-held-from : (cs : List Call) (fs : List Event) → ((t : List ℕ) → OneOf t cs → (e : Event) → In e (eventsOf t) → In e fs) → (e : Event) → In e (accepted cs) → In e fs
+held-from : (cs : List Call) (fs : List Event) → ((t : List ℕ) → TraceOf t cs → (e : Event) → In e (eventsOf t) → In e fs) → (e : Event) → In e (accepted cs) → In e fs
 unfolding accepted
 held-from [] fs f e i = absurd (none-in e i)
 held-from (c ∷ cs) fs f e i =
@@ -81,8 +81,8 @@ few s es v = omega (arith, v .count, taken-most s 4096)
 abbrev AllFine : List ℕ → Type 0
 AllFine t = (k : ℕ) → k < countOf t → fine (recordAt t k) ≡ true
 
-accepted-fine : (cs : List Call) (s z : List ℕ) (es : List Event) → Means s es → Calls s cs z → AllAccepted cs → (t : List ℕ) → OneOf t cs → AllFine t
-unfolding Calls AllAccepted OneOf
+accepted-fine : (cs : List Call) (s z : List ℕ) (es : List Event) → Means s es → Calls s cs z → AllAccepted cs → (t : List ℕ) → TraceOf t cs → AllFine t
+unfolding Calls AllAccepted TraceOf
 accepted-fine [] s z es v c a t o = absurd o
 accepted-fine (x ∷ cs) s z es v c a t o =
     ⊎-elim
@@ -92,7 +92,7 @@ accepted-fine (x ∷ cs) s z es v c a t o =
 
 -- traces of fine records, all of whose events are among fs, which have few UUIDs
 all-fit : (fs : List Event) → length (distinct fs) ≤ 4096 → (ds : List Call) (s z : List ℕ) (es : List Event) → Means s es → Calls s ds z
-    → ((e : Event) → In e es → In e fs) → ((t : List ℕ) → OneOf t ds → AllFine t) → ((t : List ℕ) → OneOf t ds → (e : Event) → In e (eventsOf t) → In e fs)
+    → ((e : Event) → In e es → In e fs) → ((t : List ℕ) → TraceOf t ds → AllFine t) → ((t : List ℕ) → TraceOf t ds → (e : Event) → In e (eventsOf t) → In e fs)
     → AllAccepted ds
 unfolding Calls AllAccepted
 all-fit fs l [] s z es v c f g h = tt
@@ -108,7 +108,7 @@ all-fit fs l (x ∷ ds) s z es v c f g h =
 
 module _ (cs ds : List Call) (s z : List ℕ) (c : Calls fresh cs s) (d : Calls fresh ds z) (a : AllAccepted cs) where
   -- Q8.d: any of the accepted traces, in any order and any number, are accepted
-  pub any-order : ((t : List ℕ) → OneOf t ds → OneOf t cs) → AllAccepted ds
+  pub any-order : ((t : List ℕ) → TraceOf t ds → TraceOf t cs) → AllAccepted ds
   any-order h =
       all-fit (accepted cs) (few s (accepted cs) (calls-mean cs fresh s [] fresh-means c)) ds fresh z [] fresh-means d
       (λ e i. absurd (none-in e i))
@@ -116,7 +116,7 @@ module _ (cs ds : List Call) (s z : List ℕ) (c : Calls fresh cs s) (d : Calls 
       (λ t o. one-held cs a t (h t o))
 
   -- Q8.d: the same traces in any order, and again: every one is accepted, and every login has the same standing
-  pub tablets : ((t : List ℕ) → OneOf t ds → OneOf t cs) → ((t : List ℕ) → OneOf t cs → OneOf t ds)
+  pub tablets : ((t : List ℕ) → TraceOf t ds → TraceOf t cs) → ((t : List ℕ) → TraceOf t cs → TraceOf t ds)
       → AllAccepted ds × ((u : List ℕ) (x y : Stood) → Stands s u x → Stands z u y → x ≡ y)
   tablets h k =
       let b = any-order h in

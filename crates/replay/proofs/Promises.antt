@@ -7,10 +7,10 @@ use mathlib.Core.List.{List, []}
 use native.Mathlib.Omega.{arith}
 use lib.ListN.{length}
 use Rattle.replay.specs.Trace.{Event, countOf}
-use Rattle.replay.specs.Cancelled.{Among, Alike, AlikeButEdits}
-use Rattle.replay.specs.Acceptance.{distinct, Fits, FirstFault}
+use Rattle.replay.specs.Cancelled.{Held, Alike, AlikeButEdits}
+use Rattle.replay.specs.Acceptance.{distinct, Acceptable, FirstFault}
 use Rattle.replay.specs.State.{fresh}
-use Rattle.replay.specs.Replay.{loginOf, left, stateAfter}
+use Rattle.replay.specs.Replay.{loginOf, leftBy, stateAfter}
 use Rattle.replay.specs.Calls.{Replays, Stands, Call, Calls, accepted, StandsAs}
 use Rattle.replay.specs.declared.Replayed.{Replayed}
 use Rattle.replay.specs.declared.Replayed.the-variants.{Accepted, Refused, NotAState}
@@ -21,7 +21,7 @@ use Rattle.replay.proofs.Count.{taken-most}
 use Rattle.replay.proofs.Marks.{markIn, marks-alike, cancelled-by, cancelled-but-edits}
 use Rattle.replay.proofs.Means.{Means}
 use Rattle.replay.proofs.Fresh.{fresh-means}
-use Rattle.replay.proofs.Verdicts.{accepted-fits, fits-accepted, refused-fault, fault-refused, judged, judged-state}
+use Rattle.replay.proofs.Verdicts.{accepted-fits, fits-accepted, refused-fault, fault-refused, verdict, verdict-state}
 use Rattle.replay.proofs.History.{replay-judges, calls-mean}
 use Rattle.replay.proofs.Telling.{told, of-inj, marks-stand}
 
@@ -42,11 +42,11 @@ module _ (cs : List Call) (s : List ℕ) (c : Calls fresh cs s) where
 
   -- one call more
   module _ {t after : List ℕ} {a : Replayed} (r : Replays s t a after) where
-    judges : a ≡ judged (accepted cs) t (countOf t)
+    judges : a ≡ verdict (accepted cs) t (countOf t)
     judges = r .is-answer ∙ replay-judges s (accepted cs) t means (r .bytes)
 
     -- Q8.b "A trace with an unknown kind, a cut record or a non-zero pad is refused"; "At most 4,096 UUIDs, over all kinds and accepted traces": these alone are refused.
-    pub accepted-exactly : (a ≡ Accepted) ↔ Fits (accepted cs) t
+    pub accepted-exactly : (a ≡ Accepted) ↔ Acceptable (accepted cs) t
     accepted-exactly = (λ e. accepted-fits (accepted cs) t few (sym judges ∙ e), λ f. judges ∙ fits-accepted (accepted cs) t f)
 
     -- Q8.c "refused as 16 with the number of its first such record"; "the first record that needs one more is refused likewise"
@@ -55,14 +55,14 @@ module _ (cs : List Call) (s : List ℕ) (c : Calls fresh cs s) where
 
     -- what calls leave from the fresh state is a state
     pub always-a-state : a ≡ NotAState → ⊥
-    always-a-state e = judged-state (accepted cs) t (countOf t) (sym judges ∙ e)
+    always-a-state e = verdict-state (accepted cs) t (countOf t) (sym judges ∙ e)
 
 -- Q8.c "and the standing of every login stays what it was": of any bytes, no byte changes unless the trace is accepted.
 pub refused-unchanged : {before t after : List ℕ} {a : Replayed} → Replays before t a after → (a ≡ Accepted → ⊥) → after ≡ before
 unfolding stateAfter
-refused-unchanged {before} {t} {after} {a} r n = r .is-after ∙ ap (λ (x : Replayed). left x before t) (sym (r .is-answer)) ∙ by a n
+refused-unchanged {before} {t} {after} {a} r n = r .is-after ∙ ap (λ (x : Replayed). leftBy x before t) (sym (r .is-answer)) ∙ by a n
   where
-    by : (a : Replayed) → (a ≡ Accepted → ⊥) → left a before t ≡ before
+    by : (a : Replayed) → (a ≡ Accepted → ⊥) → leftBy a before t ≡ before
     by Accepted n = absurd (n refl)
     by (Refused m) n = refl
     by NotAState n = refl
@@ -84,5 +84,5 @@ module _ (cs ds : List Call) (s z : List ℕ) (c : Calls fresh cs s) (d : Calls 
 
 -- Q8.e "Equal times leave it cancelled.": a cancel than which no reissue is later, though one may have its time.
 pub equal-stays : (cs : List Call) (s : List ℕ) → Calls fresh cs s → (u : List ℕ) (l : Login) → Stands s u (Of l)
-    → (e : Event) → Among 2 u (accepted cs) e → ((x : Event) → Among 3 u (accepted cs) x → x .time ≤ e .time) → l .cancelled ≡ true
+    → (e : Event) → Held 2 u (accepted cs) e → ((x : Event) → Held 3 u (accepted cs) x → x .time ≤ e .time) → l .cancelled ≡ true
 equal-stays cs s c u l h e a f = said cs s c u l h .cancelled .1 (cancelled-by u (accepted cs) e a f)

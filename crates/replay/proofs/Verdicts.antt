@@ -10,7 +10,7 @@ use lib.Dec.{leb}
 use borrow.Author.Tests.{le-leb, leb-true}
 use lib.ListN.{length}
 use Rattle.replay.specs.Trace.{Event, recordAt, countOf, eventOf, fine, firstEvents}
-use Rattle.replay.specs.Acceptance.{distinct, joined, admits, good, Fits, FirstFault}
+use Rattle.replay.specs.Acceptance.{distinct, joined, admits, good, Acceptable, FirstFault}
 use Rattle.replay.specs.Replay.{then}
 use Rattle.replay.specs.declared.Replayed.{Replayed}
 use Rattle.replay.specs.declared.Replayed.the-variants.{Accepted, Refused, NotAState}
@@ -25,9 +25,9 @@ pub never-state : {A : Type 0} → NotAState ≡ Accepted → A
 never-state e = absurd (let z : _≡_ {A = ℕ} 0 1 = cc in omega arith)
 
 -- the first n records of a trace that comes after the events es: the first at fault decides
-unfoldable pub judged : List Event → List ℕ → ℕ → Replayed
-judged es t zero = Accepted
-judged es t (suc n) = then (judged es t n) (good es t n) n
+unfoldable pub verdict : List Event → List ℕ → ℕ → Replayed
+verdict es t zero = Accepted
+verdict es t (suc n) = then (verdict es t n) (good es t n) n
 
 -- of the first m records, n is at fault, and none before it
 record First (es : List Event) (t : List ℕ) (m n : ℕ) : Type 0 where
@@ -44,10 +44,10 @@ Judged es t n (Refused m) = First es t n m
 Judged es t n NotAState = ⊥
 
 module _ (es : List Event) (t : List ℕ) where
-  judge : (n : ℕ) → Judged es t n (judged es t n)
-  unfolding judged
+  judge : (n : ℕ) → Judged es t n (verdict es t n)
+  unfolding verdict
   judge zero = λ k l. absurd (omega arith)
-  judge (suc n) = by (judged es t n) (judge n)
+  judge (suc n) = by (verdict es t n) (judge n)
     where
       by : (a : Replayed) → Judged es t n a → Judged es t (suc n) (then a (good es t n) n)
       by Accepted h = go (good es t n) refl
@@ -58,8 +58,8 @@ module _ (es : List Event) (t : List ℕ) where
       by (Refused m) h = record { low = omega (arith, h .low); bad = h .bad; before = h .before }
       by NotAState h = h
 
-  pub judged-state : (n : ℕ) → judged es t n ≡ NotAState → ⊥
-  judged-state n e = by (judged es t n) (judge n) e
+  pub verdict-state : (n : ℕ) → verdict es t n ≡ NotAState → ⊥
+  verdict-state n e = by (verdict es t n) (judge n) e
     where
       by : (a : Replayed) → Judged es t n a → a ≡ NotAState → ⊥
       by Accepted h e = never-state (sym e)
@@ -67,16 +67,16 @@ module _ (es : List Event) (t : List ℕ) where
       by NotAState h e = h
 
   -- accepted exactly when no record is at fault
-  accepted-good : (n : ℕ) → judged es t n ≡ Accepted → (k : ℕ) → k < n → good es t k ≡ true
-  accepted-good n e = by (judged es t n) (judge n) e
+  accepted-good : (n : ℕ) → verdict es t n ≡ Accepted → (k : ℕ) → k < n → good es t k ≡ true
+  accepted-good n e = by (verdict es t n) (judge n) e
     where
       by : (a : Replayed) → Judged es t n a → a ≡ Accepted → (k : ℕ) → k < n → good es t k ≡ true
       by Accepted h e = h
       by (Refused m) h e = never m e
       by NotAState h e = absurd h
 
-  good-accepted : (n : ℕ) → ((k : ℕ) → k < n → good es t k ≡ true) → judged es t n ≡ Accepted
-  good-accepted n g = by (judged es t n) (judge n)
+  good-accepted : (n : ℕ) → ((k : ℕ) → k < n → good es t k ≡ true) → verdict es t n ≡ Accepted
+  good-accepted n g = by (verdict es t n) (judge n)
     where
       by : (a : Replayed) → Judged es t n a → a ≡ Accepted
       by Accepted h = refl
@@ -84,16 +84,16 @@ module _ (es : List Event) (t : List ℕ) where
       by NotAState h = absurd h
 
   -- refused with n exactly when record n is the first at fault
-  refused-first : (m n : ℕ) → judged es t m ≡ Refused n → First es t m n
-  refused-first m n e = by (judged es t m) (judge m) e
+  refused-first : (m n : ℕ) → verdict es t m ≡ Refused n → First es t m n
+  refused-first m n e = by (verdict es t m) (judge m) e
     where
       by : (a : Replayed) → Judged es t m a → a ≡ Refused n → First es t m n
       by Accepted h e = never n (sym e)
       by (Refused k) h e = let q : k ≡ n = cc in rw (← q) h
       by NotAState h e = absurd h
 
-  first-refused : (m n : ℕ) → First es t m n → judged es t m ≡ Refused n
-  first-refused m n f = by (judged es t m) (judge m)
+  first-refused : (m n : ℕ) → First es t m n → verdict es t m ≡ Refused n
+  first-refused m n f = by (verdict es t m) (judge m)
     where
       by : (a : Replayed) → Judged es t m a → a ≡ Refused n
       by Accepted h = no (sym (h n (f .low)) ∙ f .bad)
@@ -135,7 +135,7 @@ module _ (es : List Event) (t : List ℕ) where
   up-to k (suc n) h =
       ⊎-elim (λ e. rw e (omega arith)) (λ l. omega (arith, grows n, up-to k n (omega arith))) (eq-or-lt-of-le h)
 
-  pub fits-accepted : Fits es t → judged es t (countOf t) ≡ Accepted
+  pub fits-accepted : Acceptable es t → verdict es t (countOf t) ≡ Accepted
   fits-accepted f =
       good-accepted es t (countOf t)
       (λ k l. both-admit (es ++ firstEvents t k) (recordAt t k) (f .fines k l) (omega (arith, ap (λ (x : List Event). length (distinct x)) (one-more k), up-to (suc k) (countOf t) (omega arith), f .few)))
@@ -144,13 +144,13 @@ module _ (es : List Event) (t : List ℕ) where
   few-so zero h g = omega (arith, ap (λ (x : List Event). length (distinct x)) none-yet)
   few-so (suc n) h g = omega (arith, ap (λ (x : List Event). length (distinct x)) (one-more n), admits-both (es ++ firstEvents t n) (recordAt t n) (g n (omega arith)) .1)
 
-  pub accepted-fits : length (distinct es) ≤ 4096 → judged es t (countOf t) ≡ Accepted → Fits es t
+  pub accepted-fits : length (distinct es) ≤ 4096 → verdict es t (countOf t) ≡ Accepted → Acceptable es t
   accepted-fits h e =
       let g = accepted-good es t (countOf t) e in
       record { fines = λ k l. admits-both (es ++ firstEvents t k) (recordAt t k) (g k l) .0; few = few-so (countOf t) h g }
 
-  pub refused-fault : (n : ℕ) → judged es t (countOf t) ≡ Refused n → FirstFault es t n
+  pub refused-fault : (n : ℕ) → verdict es t (countOf t) ≡ Refused n → FirstFault es t n
   refused-fault n e = let f = refused-first es t (countOf t) n e in record { low = f .low; bad = f .bad; before = f .before }
 
-  pub fault-refused : (n : ℕ) → FirstFault es t n → judged es t (countOf t) ≡ Refused n
+  pub fault-refused : (n : ℕ) → FirstFault es t n → verdict es t (countOf t) ≡ Refused n
   fault-refused n f = first-refused es t (countOf t) n (record { low = f .low; bad = f .bad; before = f .before })

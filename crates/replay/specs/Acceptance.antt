@@ -34,7 +34,7 @@ abbrev pub good : List Event → List ℕ → ℕ → Bool
 good es t n = admits (es ++ firstEvents t n) (recordAt t n)
 
 -- accepted: every record is fine, and the UUIDs, with those of es, are at most 4,096
-pub record Fits (es : List Event) (t : List ℕ) : Type 0 where
+pub record Acceptable (es : List Event) (t : List ℕ) : Type 0 where
   pub fines : (k : ℕ) → k < countOf t → fine (recordAt t k) ≡ true
   pub few : length (distinct (es ++ eventsOf t)) ≤ 4096
 

@@ -7,7 +7,7 @@ use mathlib.Core.List.{List, [], _∷_, _++_}
 use lib.ListN.{length}
 use Rattle.words.specs.Numbers.{Bytes}
 use Rattle.replay.specs.Trace.{Event, eventsOf}
-use Rattle.replay.specs.Cancelled.{Among, IsLatest, Cancelled}
+use Rattle.replay.specs.Cancelled.{Held, IsLatest, Cancelled}
 use Rattle.replay.specs.Replay.{replayOf, stateAfter, standingOf}
 use Rattle.replay.specs.declared.Replayed.{Replayed}
 use Rattle.replay.specs.declared.Replayed.the-variants.{Accepted, Refused, NotAState}
@@ -53,13 +53,13 @@ AllAccepted [] = Unit {0}
 AllAccepted (c ∷ cs) = (c .answer ≡ Accepted) × AllAccepted cs
 
 -- the trace t is that of one of the calls
-unfoldable pub OneOf : List ℕ → List Call → Type 0
-OneOf t [] = ⊥
-OneOf t (c ∷ cs) = (t ≡ c .trace) ⊎ OneOf t cs
+unfoldable pub TraceOf : List ℕ → List Call → Type 0
+TraceOf t [] = ⊥
+TraceOf t (c ∷ cs) = (t ≡ c .trace) ⊎ TraceOf t cs
 
 -- the latest event of kind k of the login u, if there is one
 abbrev pub LatestIs : ℕ → List ℕ → List Event → Latest → Type 0
-LatestIs k u es Never = (e : Event) → Among k u es e → ⊥
+LatestIs k u es Never = (e : Event) → Held k u es e → ⊥
 LatestIs k u es (At x) = IsLatest k u es x
 
 -- how the login u stands after the events es

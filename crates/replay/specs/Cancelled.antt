@@ -10,7 +10,7 @@ In e [] = ⊥
 In e (x ∷ es) = (e ≡ x) ⊎ In e es
 
 -- e is an event of kind k of the login u, one of es
-pub record Among (k : ℕ) (u : List ℕ) (es : List Event) (e : Event) : Type 0 where
+pub record Held (k : ℕ) (u : List ℕ) (es : List Event) (e : Event) : Type 0 where
   pub held : In e es
   pub of : e .uuid ≡ u
   pub is : e .kind ≡ k
@@ -18,14 +18,14 @@ pub record Among (k : ℕ) (u : List ℕ) (es : List Event) (e : Event) : Type 0
 -- there is an event of kind k of the login u, and the latest has the time x
 pub record IsLatest (k : ℕ) (u : List ℕ) (es : List Event) (x : ℕ) : Type 0 where
   pub event : Event
-  pub among : Among k u es event
+  pub held : Held k u es event
   pub time : event .time ≡ x
-  pub none-later : (e : Event) → Among k u es e → e .time ≤ x
+  pub none-later : (e : Event) → Held k u es e → e .time ≤ x
 
 pub record Cancelled (u : List ℕ) (es : List Event) : Type 0 where
   pub last : ℕ
   pub cancel : IsLatest 2 u es last
-  pub no-reissue : (e : Event) → Among 3 u es e → e .time ≤ last
+  pub no-reissue : (e : Event) → Held 3 u es e → e .time ≤ last
 
 -- the same events, whatever their order and number
 pub record Alike (es fs : List Event) : Type 0 where

@@ -32,21 +32,21 @@ then replayed.Accepted g n = cond g replayed.Accepted (replayed.Refused n)
 then (replayed.Refused m) g n = replayed.Refused m
 then replayed.NotAState g n = replayed.NotAState
 
-unfoldable pub judgedTo : List ℕ → List ℕ → ℕ → Replayed
-judgedTo s t zero = replayed.Accepted
-judgedTo s t (suc n) = then (judgedTo s t n) (goesIn (recordedTo s t n) (recordAt t n)) n
+unfoldable pub answeredTo : List ℕ → List ℕ → ℕ → Replayed
+answeredTo s t zero = replayed.Accepted
+answeredTo s t (suc n) = then (answeredTo s t n) (goesIn (recordedTo s t n) (recordAt t n)) n
 
 unfoldable pub replayOf : List ℕ → List ℕ → Replayed
-replayOf s t = cond (isState s) (judgedTo s t (countOf t)) replayed.NotAState
+replayOf s t = cond (isState s) (answeredTo s t (countOf t)) replayed.NotAState
 
 -- all records, or none
-abbrev pub left : Replayed → List ℕ → List ℕ → List ℕ
-left replayed.Accepted s t = recordedTo s t (countOf t)
-left (replayed.Refused n) s t = s
-left replayed.NotAState s t = s
+abbrev pub leftBy : Replayed → List ℕ → List ℕ → List ℕ
+leftBy replayed.Accepted s t = recordedTo s t (countOf t)
+leftBy (replayed.Refused n) s t = s
+leftBy replayed.NotAState s t = s
 
 unfoldable pub stateAfter : List ℕ → List ℕ → List ℕ
-stateAfter s t = left (replayOf s t) s t
+stateAfter s t = leftBy (replayOf s t) s t
 
 -- what a mark says, and two
 abbrev pub latestOf : ℕ → Latest

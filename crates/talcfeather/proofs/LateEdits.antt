@@ -8,11 +8,11 @@ use native.Mathlib.Omega.{arith}
 use lib.Dec.{eqb}
 use Rattle.replay.specs.Trace.{Event, eventsOf}
 use Rattle.replay.specs.Cancelled.{Alike}
-use Rattle.replay.specs.Acceptance.{Fits, FirstFault}
+use Rattle.replay.specs.Acceptance.{Acceptable, FirstFault}
 use Rattle.replay.specs.State.{fresh}
 use Rattle.replay.specs.Replay.{replayOf, standingOf}
 use Rattle.replay.specs.Answers.{replayNumber, replayNumbers, standingNumber, standingNumbers}
-use Rattle.replay.specs.Calls.{Replays, Stands, Call, Calls, ifAccepted, accepted, AllAccepted, OneOf, StandsAs}
+use Rattle.replay.specs.Calls.{Replays, Stands, Call, Calls, ifAccepted, accepted, AllAccepted, TraceOf, StandsAs}
 use Rattle.replay.specs.declared.Replayed.{Replayed}
 use Rattle.replay.specs.declared.Replayed.the-variants.{Accepted, Refused, NotAState}
 use Rattle.replay.specs.declared.Login.{Login}
@@ -47,10 +47,10 @@ record AsCalls (s : List ℕ) (cs : List Traced) (z : List ℕ) : Type 0 where
   are : Calls s calls z
   held : accepted calls ≡ heldBy cs
   all : AllZero cs ↔ AllAccepted calls
-  traces : (t : List ℕ) → TracedBy t cs ↔ OneOf t calls
+  traces : (t : List ℕ) → TracedBy t cs ↔ TraceOf t calls
 
 as-calls : (cs : List Traced) (s z : List ℕ) → TalcCalls s cs z → AsCalls s cs z
-unfolding TalcCalls Calls accepted heldBy AllZero AllAccepted TracedBy OneOf
+unfolding TalcCalls Calls accepted heldBy AllZero AllAccepted TracedBy TraceOf
 as-calls [] s z c = record { calls = []; are = c; held = refl; all = (λ x. x, λ x. x); traces = λ t. (λ x. x, λ x. x) }
 as-calls (x ∷ cs) s z c =
     let r = c .2 in
@@ -87,11 +87,11 @@ module _ (cs : List Traced) (s : List ℕ) (c : TalcCalls fresh cs s) where
 
   module _ {t after answer : List ℕ} {n : ℕ} (r : TalcReplay s t n after answer) where
     -- Q8.b "A trace with an unknown kind, a cut record or a non-zero pad is refused"; "At most 4,096 UUIDs, over all kinds and accepted traces": these alone are refused.
-    pub accepted-exactly : (n ≡ 0) ↔ Fits (heldBy cs) t
+    pub accepted-exactly : (n ≡ 0) ↔ Acceptable (heldBy cs) t
     accepted-exactly =
         let p = promises.accepted-exactly ds s are (as-replay r) in (
-          λ e. subst (λ (es : List Event). Fits es t) held (p .0 (zero-accepted (replayOf s t) (sym (r .is-number) ∙ e))),
-          λ f. r .is-number ∙ ap replayNumber (p .1 (subst (λ (es : List Event). Fits es t) (sym held) f)),
+          λ e. subst (λ (es : List Event). Acceptable es t) held (p .0 (zero-accepted (replayOf s t) (sym (r .is-number) ∙ e))),
+          λ f. r .is-number ∙ ap replayNumber (p .1 (subst (λ (es : List Event). Acceptable es t) (sym held) f)),
         )
 
     -- Q8.c "refused as 16 with the number of its first such record"; "the first record that needs one more is refused likewise"
@@ -130,7 +130,7 @@ module _ (cs ds : List Traced) (s z : List ℕ) (c : TalcCalls fresh cs s) (d : 
 
   -- Q8.d: of traces that are all accepted, any are accepted in any order and any number; and where they are the same traces, every login has the same standing
   module _ (h : AllZero cs) (f : (t : List ℕ) → TracedBy t ds → TracedBy t cs) where
-    to : (t : List ℕ) → OneOf t (j .calls) → OneOf t (i .calls)
+    to : (t : List ℕ) → TraceOf t (j .calls) → TraceOf t (i .calls)
     to t o = i .traces t .0 (f t (j .traces t .1 o))
 
     pub any-order : AllZero ds
