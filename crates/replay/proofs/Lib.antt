@@ -20,6 +20,7 @@ pub mod History
 pub mod Telling
 pub mod Promises
 pub mod Order
+pub mod Cases
 pub mod Passes
 pub mod Checked
 pub mod Says
