@@ -26,12 +26,11 @@ two-words e p a b x h q r s =
     let k : p + 4 + 3 ≡ p + 7 = omega arith in
     q ∙ ap₂ (λ (m n : ℕ). m + 2 ^ 32 * n) r s ∙ rw (eight-at e p h, i, j, k)
 
-pub is-fine : (r : List ℕ) (k x : Bool) (n : ℕ) → length r ≡ 32 → k ≡ known (getD r 20 0) → k ≡ true → n ≡ length r - 21
-    → x ≡ same (take n (drop 21 r)) (zeros 11) → x ≡ fine r
+pub is-fine : (r : List ℕ) (k x : Bool) → length r ≡ 32 → k ≡ known (getD r 20 0) → k ≡ true → x ≡ same (take 11 (drop 21 r)) (zeros 11) → x ≡ fine r
 unfolding fine
-is-fine r k x n h p q m e =
-    let l : length (drop 21 r) ≤ n = simp length-drop (omega arith) in
-    e ∙ rw (eq-eqb (length r) 32 h, sym p ∙ q, take-all n (drop 21 r) l)
+is-fine r k x h p q e =
+    let l : length (drop 21 r) ≤ 11 = simp length-drop (omega arith) in
+    e ∙ rw (eq-eqb (length r) 32 h, sym p ∙ q, take-all 11 (drop 21 r) l)
 
 pub not-fine : (r : List ℕ) (k : Bool) → length r ≡ 32 → k ≡ known (getD r 20 0) → k ≡ false → false ≡ fine r
 unfolding fine

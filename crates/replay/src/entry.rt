@@ -57,7 +57,7 @@ pub fn fine(r: &[u8]) -> bool
     if r.len() == 32 {
         if known(r[20]) {
             let z = [0u8; 11];
-            return words::slices::same(&r[21..], &z);
+            return words::slices::same(&r[21..32], &z);
         }
         return false;
     }
