@@ -2,7 +2,7 @@
 use Prim.Native.Nat.{ℕ, zero, suc, _+_, _*_, _-_, _/_, _<_, _≤_}
 use mathlib.Core.Path.{_≡_, refl, sym, ap, subst, _∙_}
 use mathlib.Core.Bool.{Bool, true, false, cond}
-use mathlib.Core.Logic.{⊎-elim}
+use mathlib.Core.Logic.{_↔_, ⊎-elim}
 use mathlib.Core.List.{List}
 use native.Mathlib.Omega.{arith}
 use lib.Dec.{ltb}
@@ -15,10 +15,11 @@ use Rattle.replay.specs.Waiting.{reservedTo, Reserves, sweptTo, Owned, A
 use Rattle.replay.specs.Calls.{Replays}
 use Rattle.replay.specs.declared.Replayed.{Replayed}
 use Rattle.replay.specs.declared.Replayed.the-variants.{Accepted, Refused, NotAState}
-use Rattle.replay.proofs.Tests.{lt-or-ge}
+use Rattle.replay.proofs.Tests.{no, lt-or-ge}
 use Rattle.replay.proofs.Fine.{cut-not-fine}
-use Rattle.replay.proofs.Tidy.{Tidy, is-tidy}
-use Rattle.replay.proofs.Passes.{AllGo, passed, tests-agree, settled, goes-both}
+use Rattle.replay.proofs.Tidy.{Tidy, is-tidy, tidy-is}
+use Rattle.replay.proofs.Passes.{AllGo, passed, tests-agree, settled, goes-both, part, record-tidy}
+use Rattle.replay.proofs.Verdicts.{never, never-state, never-refused}
 use Rattle.replay.proofs.Swept.{swept-back, reserved-to}
 
 -- a fault stays
@@ -115,6 +116,50 @@ module _ (s t : List ℕ) (i : isState s ≡ true) (b : Bytes t) where
             ∙ swept-back s (reservedTo s t n) v (passed t b s v n (r .goes) .long .long) (reserved-to t b s v n (r .goes))
             ∙ sym (after-is refused);
       }
+
+-- what an accepted trace leaves is a state
+then-both : (a : Replayed) (g : Bool) (n : ℕ) → then a g n ≡ Accepted → (a ≡ Accepted) × (g ≡ true)
+then-both Accepted true n e = (refl, refl)
+then-both Accepted false n e = never n e
+then-both (Refused m) g n e = never m e
+then-both NotAState g n e = never-state e
+
+recorded-tidy : (s t : List ℕ) → Tidy s → Bytes t → (n : ℕ) → answeredTo s t n ≡ Accepted → Tidy (recordedTo s t n)
+unfolding answeredTo recordedTo
+recorded-tidy s t v b zero e = v
+recorded-tidy s t v b (suc n) e =
+    let h = then-both (answeredTo s t n) (goesIn (recordedTo s t n) (recordAt t n)) n e in
+    let g = goes-both (recordedTo s t n) (recordAt t n) (h .1) in
+    record-tidy (recordAt t n) (part t b n) (g .0) (recordedTo s t n) (recorded-tidy s t v b n (h .0)) (g .1)
+
+pub left-tidy : (s t : List ℕ) → isState s ≡ true → Bytes t → isState (stateAfter s t) ≡ true
+unfolding stateAfter
+left-tidy s t i b = by (replayOf s t) (answer-is s t i b)
+  where
+    by : (a : Replayed) → a ≡ answeredTo s t (countOf t) → isState (leftBy a s t) ≡ true
+    by Accepted e = tidy-is (recordedTo s t (countOf t)) (recorded-tidy s t (is-tidy s i) b (countOf t) (sym e))
+    by (Refused n) e = i
+    by NotAState e = i
+
+-- and no state is refused as one that is none
+answered-state : (s t : List ℕ) (n : ℕ) → answeredTo s t n ≡ NotAState → ⊥
+unfolding answeredTo
+answered-state s t zero e = never-state (sym e)
+answered-state s t (suc n) e = by (answeredTo s t n) (goesIn (recordedTo s t n) (recordAt t n)) (answered-state s t n) e
+  where
+    by : (a : Replayed) (g : Bool) → (a ≡ NotAState → ⊥) → then a g n ≡ NotAState → ⊥
+    by Accepted true h e = never-state (sym e)
+    by Accepted false h e = never-refused n e
+    by (Refused m) g h e = never-refused m e
+    by NotAState g h e = h refl
+
+pub no-state : (s t : List ℕ) → (replayOf s t ≡ NotAState) ↔ (isState s ≡ false)
+unfolding replayOf
+no-state s t = by (isState s)
+  where
+    by : (b : Bool) → (cond b (answeredTo s t (countOf t)) NotAState ≡ NotAState) ↔ (b ≡ false)
+    by true = (λ e. absurd (answered-state s t (countOf t) e), λ e. no e)
+    by false = (λ e. refl, λ e. refl)
 
 pub not-a-state : (s t : List ℕ) → Bytes t → isState s ≡ false → Replays s t NotAState s
 unfolding replayOf stateAfter

@@ -1,7 +1,7 @@
 -- The promises of a replay, sentence by sentence of document 02's Q-8, of calls of `replay` and `standing` as they ship, each taken by its contract alone (`Replays`, `Stands`): from the fresh state, after any calls, some of them refused.
 use Prim.Native.Nat.{ℕ, _≤_}
 use mathlib.Core.Path.{_≡_, refl, sym, ap, ap₂, subst, _∙_}
-use mathlib.Core.Bool.{true}
+use mathlib.Core.Bool.{true, false}
 use mathlib.Core.Logic.{_↔_}
 use mathlib.Core.List.{List, []}
 use native.Mathlib.Omega.{arith}
@@ -9,7 +9,7 @@ use lib.ListN.{length}
 use Rattle.replay.specs.Trace.{Event, countOf}
 use Rattle.replay.specs.Cancelled.{Held, Alike, AlikeButEdits}
 use Rattle.replay.specs.Acceptance.{distinct, Acceptable, FirstFault}
-use Rattle.replay.specs.State.{fresh}
+use Rattle.replay.specs.State.{isState, fresh}
 use Rattle.replay.specs.Replay.{loginOf, leftBy, stateAfter}
 use Rattle.replay.specs.Calls.{Replays, Stands, Call, Calls, accepted, StandsAs}
 use Rattle.replay.specs.declared.Replayed.{Replayed}
@@ -23,6 +23,7 @@ use Rattle.replay.proofs.Means.{Means}
 use Rattle.replay.proofs.Fresh.{fresh-means}
 use Rattle.replay.proofs.Verdicts.{accepted-fits, fits-accepted, refused-fault, fault-refused, verdict, verdict-state}
 use Rattle.replay.proofs.History.{replay-judges, calls-mean}
+use Rattle.replay.proofs.AllOrNone.{no-state, left-tidy}
 use Rattle.replay.proofs.Telling.{told, of-inj, marks-stand}
 
 module _ (cs : List Call) (s : List ℕ) (c : Calls fresh cs s) where
@@ -86,3 +87,17 @@ module _ (cs ds : List Call) (s z : List ℕ) (c : Calls fresh cs s) (d : Calls 
 pub equal-stays : (cs : List Call) (s : List ℕ) → Calls fresh cs s → (u : List ℕ) (l : Login) → Stands s u (Of l)
     → (e : Event) → Held 2 u (accepted cs) e → ((x : Event) → Held 3 u (accepted cs) x → x .time ≤ e .time) → l .cancelled ≡ true
 equal-stays cs s c u l h e a f = said cs s c u l h .cancelled .1 (cancelled-by u (accepted cs) e a f)
+
+-- Q8.f: of any bytes there is one answer, and one state after it; it is "no state" exactly of bytes that are none, and what is left of a state is one.
+module _ {before t after : List ℕ} {a : Replayed} (r : Replays before t a after) where
+  pub replay-one : {after′ : List ℕ} {a′ : Replayed} → Replays before t a′ after′ → (a ≡ a′) × (after ≡ after′)
+  replay-one q = (r .is-answer ∙ sym (q .is-answer), r .is-after ∙ sym (q .is-after))
+
+  pub no-state-exactly : (a ≡ NotAState) ↔ (isState before ≡ false)
+  no-state-exactly = let n = no-state before t in (λ e. n .0 (sym (r .is-answer) ∙ e), λ h. r .is-answer ∙ n .1 h)
+
+  pub leaves-a-state : isState before ≡ true → isState after ≡ true
+  leaves-a-state h = ap isState (r .is-after) ∙ left-tidy before t h (r .bytes)
+
+pub standing-one : {s u : List ℕ} {a b : Stood} → Stands s u a → Stands s u b → a ≡ b
+standing-one x y = x .is-answer ∙ sym (y .is-answer)

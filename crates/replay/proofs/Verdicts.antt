@@ -21,6 +21,9 @@ use Rattle.replay.proofs.Gathered.{distinct-more, joined-long}
 pub never : {A : Type 0} (n : ℕ) → Refused n ≡ Accepted → A
 never n e = absurd (let z : _≡_ {A = ℕ} 0 1 = cc in omega arith)
 
+pub never-refused : {A : Type 0} (n : ℕ) → Refused n ≡ NotAState → A
+never-refused n e = absurd (let z : _≡_ {A = ℕ} 0 1 = cc in omega arith)
+
 pub never-state : {A : Type 0} → NotAState ≡ Accepted → A
 never-state e = absurd (let z : _≡_ {A = ℕ} 0 1 = cc in omega arith)
 
@@ -63,7 +66,7 @@ module _ (es : List Event) (t : List ℕ) where
     where
       by : (a : Replayed) → Judged es t n a → a ≡ NotAState → ⊥
       by Accepted h e = never-state (sym e)
-      by (Refused m) h e = (let z : _≡_ {A = ℕ} 0 1 = cc in omega arith)
+      by (Refused m) h e = never-refused m e
       by NotAState h e = h
 
   -- accepted exactly when no record is at fault

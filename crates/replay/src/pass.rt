@@ -96,11 +96,11 @@ pub fn enter(state: &mut [u8], trace: &[u8])
     requires { ⌜ AllOwned (now state) (now trace) ⌝ }
     ensures { λ _. ⌜ now (state .exit) ≡ recordedTo (now (state .entry)) (now (trace .entry)) (countOf (now (trace .entry))) ⌝ }
 {
-    let mut n: usize = 0;
-    while n < trace.len() / 32 {
-        let p = 32 * n;
+    let mut k: usize = 0;
+    while k < trace.len() / 32 {
+        let p = 32 * k;
         let q = p + 32;
         enter_one(state, &trace[p..q]);
-        n += 1;
+        k += 1;
     }
 }

@@ -1,15 +1,15 @@
 -- The promises of document 02's Q-8, of calls of `talc_replay` and `talc_standing` as they ship, each taken by its contract alone: what is said of every call of `replay` and `standing` (replay, Promises.antt and Order.antt), carried over.
-use Prim.Native.Nat.{ℕ}
+use Prim.Native.Nat.{ℕ, _≤_}
 use mathlib.Core.Path.{_≡_, refl, sym, ap, ap₂, subst, _∙_}
-use mathlib.Core.Bool.{cond}
+use mathlib.Core.Bool.{true, false, cond}
 use mathlib.Core.Logic.{_↔_, ⊎-elim, inl, inr}
 use mathlib.Core.List.{List, [], _∷_, _++_}
 use native.Mathlib.Omega.{arith}
 use lib.Dec.{eqb}
 use Rattle.replay.specs.Trace.{Event, eventsOf}
-use Rattle.replay.specs.Cancelled.{Alike}
+use Rattle.replay.specs.Cancelled.{Held, Alike, AlikeButEdits}
 use Rattle.replay.specs.Acceptance.{Acceptable, FirstFault}
-use Rattle.replay.specs.State.{fresh}
+use Rattle.replay.specs.State.{isState, fresh}
 use Rattle.replay.specs.Replay.{replayOf, standingOf}
 use Rattle.replay.specs.Answers.{replayNumber, replayNumbers, standingNumber, standingNumbers}
 use Rattle.replay.specs.Calls.{Replays, Stands, Call, Calls, ifAccepted, accepted, AllAccepted, TraceOf, StandsAs}
@@ -18,6 +18,7 @@ use Rattle.replay.specs.declared.Replayed.the-variants.{Accepted, Refused, NotA
 use Rattle.replay.specs.declared.Login.{Login}
 use Rattle.replay.specs.declared.Stood.{Stood}
 use Rattle.replay.specs.declared.Stood.the-variants.{Of}
+use Rattle.replay.proofs.Marks.{cancelled-by, cancelled-but-edits}
 use Rattle.replay.proofs.Promises as promises
 use Rattle.replay.proofs.Order as order
 use Rattle.talcfeather.specs.Numbers.{inBytes}
@@ -85,6 +86,11 @@ module _ (cs : List Traced) (s : List ℕ) (c : TalcCalls fresh cs s) where
         subst (λ (es : List Event). StandsAs u es (t .0)) held (t .2),
       )
 
+  -- Q8.e "Equal times leave it cancelled.": a cancel than which no reissue is later, though one may have its time.
+  pub equal-stays : {u answer : List ℕ} {n : ℕ} (h : TalcStanding s u n answer) (e : Event) → Held 2 u (heldBy cs) e
+      → ((x : Event) → Held 3 u (heldBy cs) x → x .time ≤ e .time) → stands-as h .0 .cancelled ≡ true
+  equal-stays {u} h e a f = stands-as h .3 .cancelled .1 (cancelled-by u (heldBy cs) e a f)
+
   module _ {t after answer : List ℕ} {n : ℕ} (r : TalcReplay s t n after answer) where
     -- Q8.b "A trace with an unknown kind, a cut record or a non-zero pad is refused"; "At most 4,096 UUIDs, over all kinds and accepted traces": these alone are refused.
     pub accepted-exactly : (n ≡ 0) ↔ Acceptable (heldBy cs) t
@@ -112,6 +118,21 @@ module _ (cs : List Traced) (s : List ℕ) (c : TalcCalls fresh cs s) where
 pub refused-unchanged : {before t after answer : List ℕ} {n : ℕ} → TalcReplay before t n after answer → (n ≡ 0 → ⊥) → after ≡ before
 refused-unchanged r h = promises.refused-unchanged (as-replay r) (λ e. h (r .is-number ∙ ap replayNumber e))
 
+-- Q8.f: 19 exactly of bytes that are no state; what is left of a state is one.
+nineteen : (a : Replayed) → replayNumber a ≡ 19 → a ≡ NotAState
+nineteen Accepted e = absurd (omega arith)
+nineteen (Refused m) e = absurd (omega arith)
+nineteen NotAState e = refl
+
+module _ {before t after answer : List ℕ} {n : ℕ} (r : TalcReplay before t n after answer) where
+  pub no-state-exactly : (n ≡ 19) ↔ (isState before ≡ false)
+  no-state-exactly =
+      let p = promises.no-state-exactly (as-replay r) in
+      (λ e. p .0 (nineteen (replayOf before t) (sym (r .is-number) ∙ e)), λ h. r .is-number ∙ ap replayNumber (p .1 h))
+
+  pub leaves-a-state : isState before ≡ true → isState after ≡ true
+  leaves-a-state = promises.leaves-a-state (as-replay r)
+
 module _ (cs ds : List Traced) (s z : List ℕ) (c : TalcCalls fresh cs s) (d : TalcCalls fresh ds z) where
   abbrev i : AsCalls fresh cs s
   i = as-calls cs fresh s c
@@ -127,6 +148,12 @@ module _ (cs ds : List Traced) (s z : List ℕ) (c : TalcCalls fresh cs s) (d : 
   order-free h {u} x y =
       let k : Alike (accepted (i .calls)) (accepted (j .calls)) = rw (i .held, j .held) h in
       alike x y (promises.order-free (i .calls) (j .calls) s z (i .are) (j .are) k u (standingOf s u) (standingOf z u) (as-standing x) (as-standing y))
+
+  -- Q8.e "Edits never reopen.": with and without edits, in either direction.
+  pub edits-never : AlikeButEdits (heldBy cs) (heldBy ds) → {u a b : List ℕ} {m n : ℕ} (x : TalcStanding s u m a) (y : TalcStanding z u n b)
+      → stands-as cs s c x .0 .cancelled ≡ true → stands-as ds z d y .0 .cancelled ≡ true
+  edits-never h {u} x y k =
+      stands-as ds z d y .3 .cancelled .1 (cancelled-but-edits u (heldBy cs) (heldBy ds) h (stands-as cs s c x .3 .cancelled .0 k))
 
   -- Q8.d: of traces that are all accepted, any are accepted in any order and any number; and where they are the same traces, every login has the same standing
   module _ (h : AllZero cs) (f : (t : List ℕ) → TracedBy t ds → TracedBy t cs) where

@@ -9,10 +9,10 @@ use Rattle.replay.proofs.pass.enter.Statement.{statement}
 use Rattle.replay.proofs.pass.enter.Tie as tie
 
 abbrev Inv-loop : tie.InvT-loop
-Inv-loop state₀ trace n₀ state n = Entering state₀ trace state n
+Inv-loop state₀ trace k₀ state k = Entering state₀ trace state k
 
 abbrev μ-loop : tie.MeasureT-loop
-μ-loop state₀ trace n₀ state n = length trace / 32 - n
+μ-loop state₀ trace k₀ state k = length trace / 32 - k
 
 loop-holds : tie.Need-loop-holds Inv-loop μ-loop
 loop-holds c = entering-start (c .before .before .args .state .now) (c .before .before .args .trace .now) (c .before .before .pre)
