@@ -309,8 +309,9 @@ uint32_t talc_find(const uint8_t *body, size_t body_len,
  * Takes a whole trace into a state. From a fresh state on, a login is
  * cancelled exactly when the traces accepted so far, taken together, hold a
  * cancel of it and no reissue with a time greater than its latest cancel.
- * Equal times leave it cancelled; edits never reopen. So neither the order in
- * which traces come nor a record that comes twice changes any standing.
+ * Equal times leave it cancelled; edits never reopen. So of accepted traces,
+ * neither the order in which they come nor a record that comes twice changes
+ * any standing.
  *
  * Refusals, the first that applies, in this order:
  *  19  state_len is not 131,072, or the memory is no state
@@ -331,12 +332,13 @@ uint32_t talc_find(const uint8_t *body, size_t body_len,
  * are no state. Where an entry stands is the library's own matter. A state
  * may be kept in a file as it is: write a new file beside the old one and
  * rename it, so that it is never half, and check it with an empty trace when
- * it is read again. Nothing in a state is secret or authentic: who can write
- * the file decides what it says.
+ * it is read again. Memory in which a call was broken off may pass for a state
+ * and hold a part of the trace: go back to what was kept. Nothing in a state
+ * is secret or authentic: who can write the file decides what it says.
  *
  * The state must not overlap the trace. The time taken grows with the number
  * of records; UUIDs that were chosen to collide cost more time, and change no
- * answer. The call takes at most 16 KB of stack.
+ * answer. A test holds the call to 16 KB of stack.
  */
 uint32_t talc_replay(uint8_t *state, size_t state_len,
                      const uint8_t *trace, size_t trace_len,
@@ -357,7 +359,7 @@ uint32_t talc_replay(uint8_t *state, size_t state_len,
  *   32  time of the latest reissue, else 0
  *
  * A UUID that never came, or refused: the answer is zero. Nothing else is
- * written. The call takes at most 16 KB of stack.
+ * written. A test holds the call to 16 KB of stack.
  */
 uint32_t talc_standing(const uint8_t *state, size_t state_len,
                        const uint8_t uuid[16],

@@ -113,7 +113,12 @@ const TABLE: [Row; 16] = [
     (12, Fill, "the fill is not exactly what the field needs", "give the number of bytes it needs"),
     (13, EndData, "an END field cannot have data", "give it none"),
     (14, Field, "the field is cut, or is an END with data", "take the file's own body"),
-    (16, Trace(0), "a record of the trace is at fault", "copy the trace again"),
+    (
+        16,
+        Trace(0),
+        "a record of the trace is at fault",
+        "copy the trace again, unless it brings more logins than a state holds",
+    ),
     (
         19,
         State,

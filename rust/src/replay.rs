@@ -83,8 +83,8 @@ pub fn replay(state: &mut [u8], trace: &[u8]) -> Result<(), Refusal> {
 /// The standing of the login with that UUID; that of a UUID that never came is
 /// `Standing::default()`.
 ///
-/// [`Refusal::State`] if the look-up meets what no state has. It does not check the rest of the
-/// state; [`replay`] with an empty trace does.
+/// [`Refusal::State`] if the state has another length, or if the entry at which the look-up ends is
+/// none of a state. No other entry is checked; [`replay`] with an empty trace checks them all.
 ///
 /// ```
 /// use talcfeather::{replay, standing, trace_record, Kind, Standing, STATE_SIZE};

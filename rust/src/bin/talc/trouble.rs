@@ -114,7 +114,7 @@ impl fmt::Display for Trouble {
                     f,
                     "refused, 16: {refused} of {all} traces; nothing of a refused trace is "
                 )?;
-                write!(f, "taken: copy it again and replay it")
+                write!(f, "taken: copy it again and replay it, unless the state is full")
             }
             Trouble::Usage(message) => write!(f, "{message}; try talc --help"),
             Trouble::GivenUp => write!(f, "given up"),
