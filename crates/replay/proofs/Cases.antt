@@ -49,6 +49,11 @@ pad-1 : fine (a-record 7 5 1 1) ≡ false
 unfolding fine same
 pad-1 = refl
 
+-- the first byte of the pad; above, the last
+pad-0 : fine (7 ∷ zeros 19 ++ (1 ∷ 1 ∷ zeros 10)) ≡ false
+unfolding fine same
+pad-0 = refl
+
 cut-31 : fine (take 31 (edit 5)) ≡ false
 unfolding fine
 cut-31 = refl
