@@ -3,7 +3,8 @@
 # make bench   times the proved code beside other libraries (docs/BENCHMARKS.md)
 # make agree   compares the lower layers with libgcrypt and nettle, where they are there
 #
-# All need rt (the Rattle toolchain), cargo, gcc and make, and no network.
+# All need rt (the Rattle toolchain), cargo, gcc and make, and no network; on a machine that isn't
+# x86-64, also what tools/elsewhere says.
 
 TALC := rust/target/release/talc
 
