@@ -3,12 +3,19 @@
 # make bench   times the proved code beside other libraries (docs/BENCHMARKS.md)
 # make agree   compares the lower layers with libgcrypt and nettle, where they are there
 #
-# All need rt (the Rattle toolchain), cargo, gcc and make, and no network.
+# All need rt (the Rattle toolchain), cargo, gcc and make, and no network; on a machine that isn't
+# x86-64, also what tools/elsewhere says.
 
 TALC := rust/target/release/talc
 
+# The library is for x86-64: another machine runs it under an emulator.
+ifneq ($(shell uname -m),x86_64)
+ELSEWHERE := ../tools/elsewhere
+TALC := qemu-x86_64 rust/target/x86_64-unknown-linux-gnu/release/talc
+endif
+
 logins: library
-	cd rust && cargo build --offline --release --quiet
+	cd rust && $(ELSEWHERE) cargo build --offline --release --quiet
 	$(TALC) list examples/floor.psafe3 --passphrase-file examples/floor.passphrase
 
 library:

@@ -1,15 +1,23 @@
 //! The header and the example, compiled as the README says, with every warning an error.
 
+mod common;
+
+use common::process::built;
 use std::path::{Path, PathBuf};
 use std::process::Command;
 
 const C99: [&str; 1] = ["-std=c99"];
 const CPP: [&str; 3] = ["-std=c++11", "-x", "c++"];
 
+/// gcc, or the one for x86-64 that tools/elsewhere names.
+fn gcc() -> Command {
+    Command::new(std::env::var_os("TALC_GCC").unwrap_or("gcc".into()))
+}
+
 fn compiled(language: &[&str], source: &str, name: &str) -> PathBuf {
     let root = Path::new(env!("CARGO_MANIFEST_DIR")).join("..");
     let program = Path::new(env!("CARGO_TARGET_TMPDIR")).join(name);
-    let status = Command::new("gcc")
+    let status = gcc()
         .current_dir(&root)
         .args(["-Wall", "-Wextra", "-Wpedantic", "-Werror", "-O2", "-Iinclude"])
         .args(language)
@@ -22,14 +30,14 @@ fn compiled(language: &[&str], source: &str, name: &str) -> PathBuf {
 
 /// Whether gcc has its compiler for C++, which the rest does not need.
 fn has_cpp() -> bool {
-    let found = Command::new("gcc").arg("-print-prog-name=cc1plus").output().expect("gcc").stdout;
+    let found = gcc().arg("-print-prog-name=cc1plus").output().expect("gcc").stdout;
     // Without one, gcc answers the bare name.
     String::from_utf8(found).unwrap().contains('/')
 }
 
 fn run(program: &Path, arguments: &[&str]) -> (i32, String) {
     let root = Path::new(env!("CARGO_MANIFEST_DIR")).join("..");
-    let output = Command::new(program).current_dir(root).args(arguments).output().unwrap();
+    let output = built(program).current_dir(root).args(arguments).output().unwrap();
     (output.status.code().expect("no signal"), String::from_utf8(output.stdout).unwrap())
 }
 

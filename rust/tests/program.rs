@@ -11,7 +11,7 @@ use std::io::{Read, Write};
 use std::os::unix::fs::PermissionsExt;
 use std::os::unix::process::CommandExt;
 use std::path::{Path, PathBuf};
-use std::process::{Command, Stdio};
+use std::process::Stdio;
 
 #[test]
 fn check() {
@@ -326,7 +326,7 @@ fn output_that_goes_nowhere() {
     let file = folder.put("a.psafe3", &safe());
     let stored = folder.put("passphrase", PASSPHRASE);
     let full = fs::OpenOptions::new().write(true).open("/dev/full").unwrap();
-    let mut command = Command::new(env!("CARGO_BIN_EXE_talc"));
+    let mut command = built(env!("CARGO_BIN_EXE_talc"));
     command.args(["fields", path(&file), "--passphrase-file", path(&stored)]);
     let output = command.stdout(full).stderr(Stdio::piped()).output().unwrap();
     assert_eq!(output.status.code(), Some(74));
@@ -376,7 +376,7 @@ mod terminal {
         let (mut master, slave) = pair();
         let before = settings(&master);
         let slave = fs::OpenOptions::new().read(true).write(true).open(slave).unwrap();
-        let mut command = Command::new(env!("CARGO_BIN_EXE_talc"));
+        let mut command = built(env!("CARGO_BIN_EXE_talc"));
         command.args(["list", path(file)]).stdin(slave.try_clone().unwrap());
         command.stdout(slave.try_clone().unwrap()).stderr(slave.try_clone().unwrap());
         let fd = slave.as_raw_fd();

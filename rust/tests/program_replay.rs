@@ -10,7 +10,7 @@ use std::io;
 use std::os::unix::fs::{symlink, MetadataExt, PermissionsExt};
 use std::os::unix::process::CommandExt;
 use std::path::{Path, PathBuf};
-use std::process::{Command, Stdio};
+use std::process::Stdio;
 
 /// The two logins of the safe.
 const PRINTER: Uuid = [9; 16];
@@ -304,7 +304,7 @@ fn written_in_part() {
     let held = state_of(&[&record(&lathe(), 3, CANCEL)]);
     let trace = folder.put("a.trace", &two_traces()[0]);
     let state = folder.put("floor.state", &held);
-    let mut command = Command::new(env!("CARGO_BIN_EXE_talc"));
+    let mut command = built(env!("CARGO_BIN_EXE_talc"));
     command.args(["replay", path(&state), path(&trace)]);
     unsafe {
         command.pre_exec(|| {
@@ -328,7 +328,7 @@ fn nobody_listens() {
     let trace = folder.put("a.trace", &two_traces()[0]);
     let state = folder.0.join("floor.state");
     let full = fs::OpenOptions::new().write(true).open("/dev/full").unwrap();
-    let mut command = Command::new(env!("CARGO_BIN_EXE_talc"));
+    let mut command = built(env!("CARGO_BIN_EXE_talc"));
     command.args(["replay", path(&state), path(&trace)]);
     let output = command.stdout(full).stderr(Stdio::piped()).output().unwrap();
     assert_eq!(output.status.code(), Some(74));

@@ -4,6 +4,7 @@ use super::bodies::{join, part};
 use peer::fields::END;
 use peer::random::Random;
 use peer::safe::{write, Parts};
+use std::ffi::OsStr;
 use std::fs;
 use std::io::Write;
 use std::os::unix::process::CommandExt;
@@ -52,9 +53,21 @@ pub struct Ended {
     pub err: String,
 }
 
+/// A program built beside the tests, under the emulator that tools/elsewhere names, if it does.
+pub fn built(program: impl AsRef<OsStr>) -> Command {
+    match std::env::var_os("TALC_RUNNER") {
+        None => Command::new(program),
+        Some(runner) => {
+            let mut command = Command::new(runner);
+            command.arg(program);
+            command
+        }
+    }
+}
+
 /// Runs talc without a terminal, with that standard input.
 pub fn talc(arguments: &[&str], stdin: &[u8]) -> Ended {
-    let mut command = Command::new(env!("CARGO_BIN_EXE_talc"));
+    let mut command = built(env!("CARGO_BIN_EXE_talc"));
     command.args(arguments).stdin(Stdio::piped()).stdout(Stdio::piped()).stderr(Stdio::piped());
     // A session of its own has no terminal.
     unsafe {
