@@ -6,9 +6,9 @@ use mathlib.Core.Logic.{_↔_, ⊎-elim}
 use mathlib.Core.List.{List}
 use native.Mathlib.Omega.{arith}
 use lib.Dec.{ltb}
-use lib.ListN.{length, take, drop, length-take, length-drop}
+use lib.ListN.{length, take, length-take, length-drop}
 use Rattle.words.specs.Numbers.{Bytes}
-use Rattle.replay.specs.Trace.{recordAt, countOf, fine}
+use Rattle.replay.specs.Trace.{recordAt, countOf}
 use Rattle.replay.specs.State.{placeOf, isState}
 use Rattle.replay.specs.Replay.{goesIn, recordedTo, then, answeredTo, leftBy, replayOf, stateAfter}
 use Rattle.replay.specs.Waiting.{reservedTo, Reserves, sweptTo, Owned, AllOwned}
@@ -16,9 +16,9 @@ use Rattle.replay.specs.Calls.{Replays}
 use Rattle.replay.specs.declared.Replayed.{Replayed}
 use Rattle.replay.specs.declared.Replayed.the-variants.{Accepted, Refused, NotAState}
 use Rattle.replay.proofs.Tests.{no, lt-or-ge}
-use Rattle.replay.proofs.Fine.{cut-not-fine}
+use Rattle.replay.proofs.Fine.{cut-not-fine, record-bytes}
 use Rattle.replay.proofs.Tidy.{Tidy, is-tidy, tidy-is}
-use Rattle.replay.proofs.Passes.{AllGo, passed, tests-agree, settled, goes-both, part, record-tidy}
+use Rattle.replay.proofs.Passes.{AllGo, passed, tests-agree, settled, goes-both, record-tidy}
 use Rattle.replay.proofs.Verdicts.{never, never-state, never-refused}
 use Rattle.replay.proofs.Swept.{swept-back, reserved-to}
 
@@ -130,7 +130,7 @@ recorded-tidy s t v b zero e = v
 recorded-tidy s t v b (suc n) e =
     let h = then-both (answeredTo s t n) (goesIn (recordedTo s t n) (recordAt t n)) n e in
     let g = goes-both (recordedTo s t n) (recordAt t n) (h .1) in
-    record-tidy (recordAt t n) (part t b n) (g .0) (recordedTo s t n) (recorded-tidy s t v b n (h .0)) (g .1)
+    record-tidy (recordAt t n) (record-bytes t b n) (g .0) (recordedTo s t n) (recorded-tidy s t v b n (h .0)) (g .1)
 
 pub left-tidy : (s t : List ℕ) → isState s ≡ true → Bytes t → isState (stateAfter s t) ≡ true
 unfolding stateAfter

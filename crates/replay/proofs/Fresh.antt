@@ -10,7 +10,7 @@ use Rattle.words.specs.Slices.{zeros}
 use Rattle.words.proofs.ByteLaws.{drop-same}
 use Rattle.replay.specs.Acceptance.{within, gathered}
 use Rattle.replay.specs.State.{entryAt, cancelOf, tidy, fresh}
-use Rattle.replay.proofs.Tidy.{Tidy, zeros-tidy}
+use Rattle.replay.proofs.Tidy.{zeros-tidy}
 use Rattle.replay.proofs.Sound.{Sound, Has, none-cancel, none-reissue, cancelFor}
 use Rattle.replay.proofs.Marks.{markIn}
 use Rattle.replay.proofs.Count.{taken-none}

@@ -1,26 +1,21 @@
 -- What calls leave, one after the other: the state means the events of the accepted traces, and an answer is the verdict over these. By recursion on the records, and on the calls.
-use Prim.Native.Nat.{ℕ, zero, suc, _*_}
+use Prim.Native.Nat.{ℕ, zero, suc}
 use mathlib.Core.Path.{_≡_, refl, sym, ap, subst, _∙_}
 use mathlib.Core.Bool.{Bool, true, false, cond}
 use mathlib.Core.List.{List, [], _∷_, _++_, append-assoc, append-nil}
 use Rattle.words.specs.Numbers.{Bytes}
-use Rattle.words.proofs.ByteLaws.{bytes-take, bytes-drop}
+use Rattle.replay.proofs.Fine.{record-bytes}
 use Rattle.replay.specs.Trace.{Event, recordAt, countOf, eventOf, firstEvents, eventsOf}
 use Rattle.replay.specs.Acceptance.{good}
-use Rattle.replay.specs.State.{isState}
 use Rattle.replay.specs.Replay.{goesIn, withRecord, recordedTo, then, answeredTo, leftBy, replayOf, stateAfter}
 use Rattle.replay.specs.Calls.{Replays, Call, Calls, ifAccepted, accepted}
 use Rattle.replay.specs.declared.Replayed.{Replayed}
 use Rattle.replay.specs.declared.Replayed.the-variants.{Accepted, Refused, NotAState}
-use Rattle.replay.proofs.Tests.{no}
 use Rattle.replay.proofs.Tidy.{tidy-is}
 use Rattle.replay.proofs.Means.{Means, goes-admits, means-next}
 use Rattle.replay.proofs.Verdicts.{never, never-state, verdict}
 
 module _ (s : List ℕ) (es : List Event) (t : List ℕ) (v : Means s es) (b : Bytes t) where
-  part : (n : ℕ) → Bytes (recordAt t n)
-  part n = bytes-take 32 (bytes-drop (32 * n) b)
-
   -- after n records the two verdicts agree, and as long as all are accepted the state means their events
   agrees : (n : ℕ) → (answeredTo s t n ≡ verdict es t n) × (verdict es t n ≡ Accepted → Means (recordedTo s t n) (es ++ firstEvents t n))
   unfolding answeredTo recordedTo verdict firstEvents
@@ -33,7 +28,7 @@ module _ (s : List ℕ) (es : List Event) (t : List ℕ) (v : Means s es) (b : B
       more : goesIn x (recordAt t n) ≡ true → Means x (es ++ firstEvents t n) → Means (withRecord x (recordAt t n)) (es ++ (firstEvents t n ++ (eventOf (recordAt t n) ∷ [])))
       more g m =
           subst (Means (withRecord x (recordAt t n))) (append-assoc es (firstEvents t n) (eventOf (recordAt t n) ∷ []))
-          (means-next x (es ++ firstEvents t n) (recordAt t n) m (part n) g)
+          (means-next x (es ++ firstEvents t n) (recordAt t n) m (record-bytes t b n) g)
 
       by : (a : Replayed) → answeredTo s t n ≡ a → (a ≡ Accepted → Means x (es ++ firstEvents t n))
           → (then (answeredTo s t n) (goesIn x (recordAt t n)) n ≡ then a (good es t n) n)
@@ -41,7 +36,7 @@ module _ (s : List ℕ) (es : List Event) (t : List ℕ) (v : Means s es) (b : B
       by Accepted e m = (ap (λ (c : Replayed). then c (goesIn x (recordAt t n)) n) e ∙ ap (λ (g : Bool). then Accepted g n) same-test, go (good es t n) refl)
         where
           same-test : goesIn x (recordAt t n) ≡ good es t n
-          same-test = goes-admits x (es ++ firstEvents t n) (recordAt t n) (m refl) (part n)
+          same-test = goes-admits x (es ++ firstEvents t n) (recordAt t n) (m refl) (record-bytes t b n)
 
           go : (g : Bool) → good es t n ≡ g → then Accepted g n ≡ Accepted → Means (withRecord x (recordAt t n)) (es ++ (firstEvents t n ++ (eventOf (recordAt t n) ∷ [])))
           go true g h = more (same-test ∙ g) (m refl)

@@ -110,16 +110,6 @@ module _ (k : ℕ) (u : List ℕ) (es : List Event) where
   pub mark-none : markIn k u es < 8589934592 → (e : Event) → Held k u es e → ⊥
   mark-none l e a = omega (arith, bound e a)
 
-  pub none-mark : ((e : Event) → Held k u es e → ⊥) → markIn k u es < 8589934592
-  none-mark n = ⊎-elim (λ z. omega arith) by (mark-held k u es)
-    where
-      by : Holder k u es (markIn k u es) → markIn k u es < 8589934592
-      by h =
-          ⊎-elim
-          (λ i. absurd (n (h .event) (record { held = h .held; of = h .of; is = i })))
-          (λ m. omega (arith, h .mark, of-other k (h .event) m))
-          (eq-or-ne (h .event .kind) k)
-
   -- no event of kind k is later than x: nor is the mark greater than that of x
   pub mark-at-most : (x : ℕ) → ((e : Event) → Held k u es e → e .time ≤ x) → markIn k u es ≤ 8589934592 + x
   mark-at-most x f = ⊎-elim (λ z. omega arith) by (mark-held k u es)

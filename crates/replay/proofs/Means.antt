@@ -1,25 +1,22 @@
 -- What a state means: the marks, the UUIDs and their number are those of the events that have gone in. A record that goes in adds its event, and it goes in exactly when the events admit it.
 use Prim.Native.Nat.{ℕ, _<_, _≤_, max}
-use mathlib.Core.Path.{_≡_, refl, sym, ap, ap₂, subst, _∙_}
+use mathlib.Core.Path.{_≡_, refl, sym, ap, ap₂, _∙_}
 use mathlib.Core.Bool.{Bool, true, false, cond}
 use mathlib.Core.Logic.{⊎-elim}
 use mathlib.Core.List.{List, [], _∷_, _++_}
 use native.Mathlib.Omega.{arith}
 use lib.Dec.{eqb, ltb}
 use borrow.Author.Tests.{eq-eqb, ne-eqb, lt-ltb, le-ltb, le-leb, ltb-true}
-use lib.ListN.{length, take, drop, length-append, length-take, length-drop}
-use lib.Seq.{length-take-le}
-use Rattle.words.specs.Numbers.{numberLow, Bytes}
-use Rattle.words.proofs.ByteLaws.{bytes-take, bytes-drop}
-use Rattle.words.proofs.NumberLaws.{number-fits}
+use lib.ListN.{length, take, length-append}
+use Rattle.words.specs.Numbers.{Bytes}
 use Rattle.replay.specs.Trace.{Event, eventOf, fine}
 use Rattle.replay.specs.Acceptance.{within, joined, distinct, admits}
 use Rattle.replay.specs.State.{entryAt, cancelOf, reissueOf, entryOf, put, placeOf, isMark, markOf, noted}
 use Rattle.replay.specs.Replay.{goesIn, withRecord}
 use Rattle.replay.proofs.Tests.{no, lt-or-ge, eq-or-ne, alike-or-not}
-use Rattle.replay.proofs.Fine.{fine-whole, time-small}
+use Rattle.replay.proofs.Fine.{id-long, brings}
 use Rattle.replay.proofs.Placed.{free}
-use Rattle.replay.proofs.Tidy.{tidy-cancel, tidy-reissue, mark-range, event-mark, larger-mark}
+use Rattle.replay.proofs.Tidy.{tidy-cancel, tidy-reissue, mark-range, larger-mark}
 use Rattle.replay.proofs.Sound.{Sound, cancelFor, reissueFor, sound-new, own-cancel, own-reissue, other-cancel, other-reissue, there, taken-here}
 use Rattle.replay.proofs.Marks.{markIn, mark-more, mark-own, mark-other}
 use Rattle.replay.proofs.Count.{taken, taken-most, taken-all, taken-again, taken-one, no-place-full}
@@ -55,15 +52,6 @@ module _ (s : List ℕ) (es : List Event) (r : List ℕ) (v : Means s es) (b : B
   abbrev d : ℕ
   d = max (reissueOf old) (markOf 3 (eventOf r))
 
-  whole : length r ≡ 32
-  whole = fine-whole r f
-
-  id-long : length w ≡ 16
-  id-long = length-take-le 16 r (omega (arith, whole))
-
-  brings : (k : ℕ) → isMark (markOf k (eventOf r)) ≡ true
-  brings k = event-mark k (eventOf r) (time-small r b whole)
-
   -- no place: the UUID is new, and all entries are taken
   full : 4096 ≤ placeOf s w → admits es r ≡ false
   unfolding admits
@@ -82,10 +70,10 @@ module _ (s : List ℕ) (es : List Event) (r : List ℕ) (v : Means s es) (b : B
     old-reissue = rw (lt-ltb (placeOf s w) 4096 p)
 
     c₁ : isMark c ≡ true
-    c₁ = larger-mark (cancelOf old) (markOf 2 (eventOf r)) (tidy-cancel old (v .sound .state .each (placeOf s w) p)) (brings 2)
+    c₁ = larger-mark (cancelOf old) (markOf 2 (eventOf r)) (tidy-cancel old (v .sound .state .each (placeOf s w) p)) (brings r b f 2)
 
     d₁ : isMark d ≡ true
-    d₁ = larger-mark (reissueOf old) (markOf 3 (eventOf r)) (tidy-reissue old (v .sound .state .each (placeOf s w) p)) (brings 3)
+    d₁ = larger-mark (reissueOf old) (markOf 3 (eventOf r)) (tidy-reissue old (v .sound .state .each (placeOf s w) p)) (brings r b f 3)
 
     abbrev new : List ℕ
     new = put s (placeOf s w) (entryOf w c d)
@@ -93,18 +81,18 @@ module _ (s : List ℕ) (es : List Event) (r : List ℕ) (v : Means s es) (b : B
     marks-cancel : (u : List ℕ) → cancelFor new u ≡ markIn 2 u (es ++ (eventOf r ∷ []))
     marks-cancel u =
         ⊎-elim
-        (λ e. ap (cancelFor new) (sym e) ∙ own-cancel s (v .sound) w c d id-long p c₁ d₁
+        (λ e. ap (cancelFor new) (sym e) ∙ own-cancel s (v .sound) w c d (id-long r f) p c₁ d₁
         ∙ ap₂ max (old-cancel ∙ v .cancels w ∙ ap (λ (x : List ℕ). markIn 2 x es) e) (sym (mark-own 2 u (eventOf r) e)) ∙ sym (mark-more 2 u es (eventOf r)))
-        (λ n. other-cancel s (v .sound) w c d id-long p c₁ d₁ u n ∙ v .cancels u
+        (λ n. other-cancel s (v .sound) w c d (id-long r f) p c₁ d₁ u n ∙ v .cancels u
         ∙ omega (arith, mark-more 2 u es (eventOf r), mark-other 2 u (eventOf r) n))
         (alike-or-not w u)
 
     marks-reissue : (u : List ℕ) → reissueFor new u ≡ markIn 3 u (es ++ (eventOf r ∷ []))
     marks-reissue u =
         ⊎-elim
-        (λ e. ap (reissueFor new) (sym e) ∙ own-reissue s (v .sound) w c d id-long p c₁ d₁
+        (λ e. ap (reissueFor new) (sym e) ∙ own-reissue s (v .sound) w c d (id-long r f) p c₁ d₁
         ∙ ap₂ max (old-reissue ∙ v .reissues w ∙ ap (λ (x : List ℕ). markIn 3 x es) e) (sym (mark-own 3 u (eventOf r) e)) ∙ sym (mark-more 3 u es (eventOf r)))
-        (λ n. other-reissue s (v .sound) w c d id-long p c₁ d₁ u n ∙ v .reissues u
+        (λ n. other-reissue s (v .sound) w c d (id-long r f) p c₁ d₁ u n ∙ v .reissues u
         ∙ omega (arith, mark-more 3 u es (eventOf r), mark-other 3 u (eventOf r) n))
         (alike-or-not w u)
 
@@ -112,15 +100,15 @@ module _ (s : List ℕ) (es : List Event) (r : List ℕ) (v : Means s es) (b : B
     met-new u =
         ⊎-elim
         (λ e. ap (within u) (distinct-more es (eventOf r)) ∙ ap (λ (x : List ℕ). within x (joined (distinct es) w)) (sym e) ∙ joined-own (distinct es) w
-        ∙ sym (some-not (cancelFor new u) (λ z. omega (arith, sym (ap (cancelFor new) (sym e) ∙ own-cancel s (v .sound) w c d id-long p c₁ d₁) ∙ z, mark-range c c₁))))
-        (λ n. ap (within u) (distinct-more es (eventOf r)) ∙ joined-other (distinct es) w u n ∙ v .met u ∙ ap some (sym (other-cancel s (v .sound) w c d id-long p c₁ d₁ u n)))
+        ∙ sym (some-not (cancelFor new u) (λ z. omega (arith, sym (ap (cancelFor new) (sym e) ∙ own-cancel s (v .sound) w c d (id-long r f) p c₁ d₁) ∙ z, mark-range c c₁))))
+        (λ n. ap (within u) (distinct-more es (eventOf r)) ∙ joined-other (distinct es) w u n ∙ v .met u ∙ ap some (sym (other-cancel s (v .sound) w c d (id-long r f) p c₁ d₁ u n)))
         (alike-or-not w u)
 
     apart : (k : ℕ) → (k ≡ placeOf s w → ⊥) → entryAt new k ≡ entryAt s k
-    apart = there s (v .sound) w c d id-long p c₁ d₁
+    apart = there s (v .sound) w c d (id-long r f) p c₁ d₁
 
     busy : free new (placeOf s w) → ⊥
-    busy = taken-here s (v .sound) w c d id-long p c₁ d₁
+    busy = taken-here s (v .sound) w c d (id-long r f) p c₁ d₁
 
     count-new : length (distinct (es ++ (eventOf r ∷ []))) ≡ taken new 4096
     count-new = ⊎-elim one-more as-many (eq-or-ne (cancelOf old) 0)
@@ -137,7 +125,7 @@ module _ (s : List ℕ) (es : List Event) (r : List ℕ) (v : Means s es) (b : B
             ap length (distinct-more es (eventOf r) ∙ joined-old (distinct es) w y) ∙ v .count ∙ sym (taken-again s new (placeOf s w) apart busy z 4096)
 
     means-new : Means new (es ++ (eventOf r ∷ []))
-    means-new = record { sound = sound-new s (v .sound) w c d id-long p c₁ d₁; cancels = marks-cancel; reissues = marks-reissue; met = met-new; count = count-new }
+    means-new = record { sound = sound-new s (v .sound) w c d (id-long r f) p c₁ d₁; cancels = marks-cancel; reissues = marks-reissue; met = met-new; count = count-new }
 
     roomy : admits es r ≡ true
     unfolding admits
@@ -167,3 +155,7 @@ module _ (s : List ℕ) (es : List Event) (r : List ℕ) (v : Means s es) (b : B
       by : (f : Bool) → fine r ≡ f → cond f (ltb (placeOf s (take 16 r)) 4096) false ≡ true → Means (put s (placeOf s (take 16 r)) (noted (entryAt s (placeOf s (take 16 r))) r)) (es ++ (eventOf r ∷ []))
       by true f g = means-new s es r v b f (ltb-true (placeOf s (take 16 r)) 4096 g)
       by false f g = no (sym g)
+
+-- the UUIDs that a state means are few
+pub few : (s : List ℕ) (es : List Event) → Means s es → length (distinct es) ≤ 4096
+few s es v = omega (arith, v .count, taken-most s 4096)

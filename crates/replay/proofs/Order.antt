@@ -1,6 +1,6 @@
 -- Traces that are all accepted in one order are all accepted in any other, and again, and leave every login the same standing: what a trace needs is that its records are fine and that the UUIDs are few, and these depend on the traces alone.
 use Prim.Native.Nat.{ℕ, _<_, _≤_}
-use mathlib.Core.Path.{_≡_, refl, sym, ap, subst, _∙_}
+use mathlib.Core.Path.{_≡_, refl, sym, subst, _∙_}
 use mathlib.Core.Bool.{true}
 use mathlib.Core.Logic.{_⊎_, ⊎-elim, inl, inr}
 use mathlib.Core.List.{List, [], _∷_, _++_}
@@ -10,12 +10,11 @@ use Rattle.replay.specs.Trace.{Event, recordAt, countOf, fine, eventsOf}
 use Rattle.replay.specs.Cancelled.{In}
 use Rattle.replay.specs.Acceptance.{distinct}
 use Rattle.replay.specs.State.{fresh}
-use Rattle.replay.specs.Calls.{Replays, Stands, Call, Calls, ifAccepted, accepted, AllAccepted, TraceOf}
+use Rattle.replay.specs.Calls.{Stands, Call, Calls, ifAccepted, accepted, AllAccepted, TraceOf}
 use Rattle.replay.specs.declared.Replayed.{Replayed}
 use Rattle.replay.specs.declared.Replayed.the-variants.{Accepted, Refused, NotAState}
 use Rattle.replay.specs.declared.Stood.{Stood}
-use Rattle.replay.proofs.Count.{taken-most}
-use Rattle.replay.proofs.Means.{Means}
+use Rattle.replay.proofs.Means.{Means, few}
 use Rattle.replay.proofs.Fresh.{fresh-means}
 use Rattle.replay.proofs.Pigeons.{fewer}
 use Rattle.replay.proofs.Verdicts.{accepted-fits, fits-accepted}
@@ -73,9 +72,6 @@ held-from (c ∷ cs) fs f e i =
     (λ j. f (c .trace) (head c cs) e (if-accepted (c .answer) e (eventsOf (c .trace)) j))
     (λ j. held-from cs fs (λ t o. f t (tail t c cs o)) e j)
     (in-either e (ifAccepted (c .answer) (eventsOf (c .trace))) (accepted cs) i)
-
-few : (s : List ℕ) (es : List Event) → Means s es → length (distinct es) ≤ 4096
-few s es v = omega (arith, v .count, taken-most s 4096)
 
 -- every record of a trace is fine
 abbrev AllFine : List ℕ → Type 0

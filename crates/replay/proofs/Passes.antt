@@ -1,25 +1,23 @@
 -- Two passes come to what one does. Where a look-up ends depends on which entries are taken, and by whom; the first pass takes the same entries as recording would, so the first fault is the same, and recording into entries that wait leaves what recording alone leaves: a place that is reserved later can be reserved after an earlier record goes in.
-use Prim.Native.Nat.{ℕ, zero, suc, _+_, _*_, _-_, _^_, _<_, _≤_, max}
+use Prim.Native.Nat.{ℕ, zero, suc, _-_, _^_, _<_, max}
 use mathlib.Core.Path.{_≡_, refl, sym, ap, ap₂, subst, _∙_}
 use mathlib.Core.Bool.{Bool, true, false, cond}
 use mathlib.Core.Logic.{⊎-elim}
 use mathlib.Core.List.{List}
 use native.Mathlib.Nat.{eq-or-lt-of-le}
 use native.Mathlib.Omega.{arith}
-use lib.Dec.{eqb, ltb}
-use borrow.Author.Tests.{eq-eqb, ne-eqb, lt-ltb, ltb-true}
-use lib.ListN.{length, take, drop}
-use lib.Seq.{length-take-le}
+use lib.Dec.{ltb}
+use borrow.Author.Tests.{eq-eqb, ne-eqb, ltb-true}
+use lib.ListN.{length, take}
 use Rattle.words.specs.Numbers.{Bytes}
 use Rattle.words.specs.Slices.{same}
-use Rattle.words.proofs.ByteLaws.{bytes-take, bytes-drop}
 use Rattle.replay.specs.Trace.{recordAt, eventOf, fine}
-use Rattle.replay.specs.State.{entryAt, cancelOf, reissueOf, entryOf, put, stops, placeOf, isMark, markOf, noted}
+use Rattle.replay.specs.State.{entryAt, cancelOf, reissueOf, entryOf, put, stops, placeOf, markOf, noted}
 use Rattle.replay.specs.Replay.{goesIn, withRecord, recordedTo}
-use Rattle.replay.specs.Waiting.{waiting, keptFor, withPlace, reservedTo, Owned}
+use Rattle.replay.specs.Waiting.{waiting, withPlace, reservedTo, Owned}
 use Rattle.replay.proofs.Tests.{eq-or-ne}
-use Rattle.replay.proofs.Fine.{fine-whole, time-small}
-use Rattle.replay.proofs.Tidy.{Tidy, both, tidy-cancel, tidy-reissue, tidy-blank, tidy-small, mark-range, event-mark, larger-mark}
+use Rattle.replay.proofs.Fine.{id-long, record-bytes, brings}
+use Rattle.replay.proofs.Tidy.{Tidy, both, tidy-cancel, tidy-reissue, tidy-blank, tidy-small, mark-range, larger-mark}
 use Rattle.replay.proofs.Entries.{entry-of-long, entry-cancel, entry-reissue, put-self, put-again, put-swap}
 use Rattle.replay.proofs.Lookup.{places-alike, stops-alike}
 use Rattle.replay.proofs.Placed as placed
@@ -125,12 +123,6 @@ module _ (r : List ℕ) (b : Bytes r) (f : fine r ≡ true) where
   abbrev w : List ℕ
   w = take 16 r
 
-  pub id-long : length w ≡ 16
-  id-long = length-take-le 16 r (omega (arith, fine-whole r f))
-
-  brings : (k : ℕ) → isMark (markOf k (eventOf r)) ≡ true
-  brings k = event-mark k (eventOf r) (time-small r b (fine-whole r f))
-
   module _ (s : List ℕ) (v : Long s) (p : placeOf s w < 4096) where
     abbrev c : ℕ
     c = max (cancelOf (entryAt s (placeOf s w))) (markOf 2 (eventOf r))
@@ -139,32 +131,32 @@ module _ (r : List ℕ) (b : Bytes r) (f : fine r ≡ true) where
     d = max (reissueOf (entryAt s (placeOf s w))) (markOf 3 (eventOf r))
 
     c₁ : 0 < c
-    c₁ = omega (arith, mark-range (markOf 2 (eventOf r)) (brings 2))
+    c₁ = omega (arith, mark-range (markOf 2 (eventOf r)) (brings r b f 2))
 
     c₂ : c < 2 ^ 34
-    c₂ = omega (arith, mark-range (markOf 2 (eventOf r)) (brings 2), v .small (placeOf s w) p)
+    c₂ = omega (arith, mark-range (markOf 2 (eventOf r)) (brings r b f 2), v .small (placeOf s w) p)
 
     is-put : withRecord s r ≡ put s (placeOf s w) (entryOf w c d)
     unfolding withRecord
     is-put = refl
 
     noted-there : (k : ℕ) → (k ≡ placeOf s w → ⊥) → entryAt (withRecord s r) k ≡ entryAt s k
-    noted-there k n = ap (λ (x : List ℕ). entryAt x k) is-put ∙ placed.there s (v .long) w c d id-long p c₁ c₂ k n
+    noted-there k n = ap (λ (x : List ℕ). entryAt x k) is-put ∙ placed.there s (v .long) w c d (id-long r f) p c₁ c₂ k n
 
     pub record-long : Long (withRecord s r)
     record-long = record {
-      long = ap length is-put ∙ placed.still-long s (v .long) w c d id-long p c₁ c₂;
+      long = ap length is-put ∙ placed.still-long s (v .long) w c d (id-long r f) p c₁ c₂;
       small = λ k l. ⊎-elim
-          (λ e. omega (arith, ap (λ (x : List ℕ). cancelOf (entryAt x k)) is-put ∙ ap (λ (j : ℕ). cancelOf (entryAt (put s (placeOf s w) (entryOf w c d)) j)) e ∙ placed.cancel-here s (v .long) w c d id-long p c₁ c₂, c₂))
+          (λ e. omega (arith, ap (λ (x : List ℕ). cancelOf (entryAt x k)) is-put ∙ ap (λ (j : ℕ). cancelOf (entryAt (put s (placeOf s w) (entryOf w c d)) j)) e ∙ placed.cancel-here s (v .long) w c d (id-long r f) p c₁ c₂, c₂))
           (λ n. omega (arith, ap cancelOf (noted-there k n), v .small k l))
           (eq-or-ne k (placeOf s w));
     }
 
     noted-stops : (u : List ℕ) → stops (withRecord s r) u (placeOf s w) ≡ same w u
-    noted-stops u = ap (λ (x : List ℕ). stops x u (placeOf s w)) is-put ∙ placed.stops-here s (v .long) w c d id-long p c₁ c₂ u
+    noted-stops u = ap (λ (x : List ℕ). stops x u (placeOf s w)) is-put ∙ placed.stops-here s (v .long) w c d (id-long r f) p c₁ c₂ u
 
     noted-busy : free (withRecord s r) (placeOf s w) → ⊥
-    noted-busy z = placed.taken-here s (v .long) w c d id-long p c₁ c₂ (ap (λ (x : List ℕ). cancelOf (entryAt x (placeOf s w))) (sym is-put) ∙ z)
+    noted-busy z = placed.taken-here s (v .long) w c d (id-long r f) p c₁ c₂ (ap (λ (x : List ℕ). cancelOf (entryAt x (placeOf s w))) (sym is-put) ∙ z)
 
     -- recording and reserving take the same entry
     pub twins-next : (y : List ℕ) → Long y → Twins s y → Twins (withRecord s r) (withPlace y w)
@@ -172,25 +164,25 @@ module _ (r : List ℕ) (b : Bytes r) (f : fine r ≡ true) where
         let q = same-place s y w t in
         let o : placeOf y w < 4096 = omega (arith, q, p) in
         ⊎-elim
-        (λ e. ap (stops (withRecord s r) u) e ∙ noted-stops u ∙ sym (stops-here y l w id-long o u) ∙ ap (stops (withPlace y w) u) (sym (e ∙ q)))
-        (λ n. stops-alike (withRecord s r) s u k (noted-there k n) ∙ t u k g ∙ sym (stops-there y l w id-long o u k (λ e. n (e ∙ sym q))))
+        (λ e. ap (stops (withRecord s r) u) e ∙ noted-stops u ∙ sym (stops-here y l w (id-long r f) o u) ∙ ap (stops (withPlace y w) u) (sym (e ∙ q)))
+        (λ n. stops-alike (withRecord s r) s u k (noted-there k n) ∙ t u k g ∙ sym (stops-there y l w (id-long r f) o u k (λ e. n (e ∙ sym q))))
         (eq-or-ne k (placeOf s w))
 
     -- reserving and then recording is recording
     pub reserved-recorded : (free s (placeOf s w) → reissueOf (entryAt s (placeOf s w)) ≡ 0) → withRecord (withPlace s w) r ≡ withRecord s r
     unfolding withRecord
-    reserved-recorded blank = ⊎-elim by (λ t. ap (λ (x : List ℕ). put x (placeOf x w) (noted (entryAt x (placeOf x w)) r)) (kept-taken s v w id-long p t)) (eq-or-ne (cancelOf (entryAt s (placeOf s w))) 0)
+    reserved-recorded blank = ⊎-elim by (λ t. ap (λ (x : List ℕ). put x (placeOf x w) (noted (entryAt x (placeOf x w)) r)) (kept-taken s v w (id-long r f) p t)) (eq-or-ne (cancelOf (entryAt s (placeOf s w))) 0)
       where
         by : free s (placeOf s w) → put (withPlace s w) (placeOf (withPlace s w) w) (noted (entryAt (withPlace s w) (placeOf (withPlace s w) w)) r) ≡ put s (placeOf s w) (noted (entryAt s (placeOf s w)) r)
         by z =
-            let e = kept-free s v w id-long p z in
-            let n : entryAt (withPlace s w) (placeOf s w) ≡ waiting w = ap (λ (x : List ℕ). entryAt x (placeOf s w)) e ∙ placed.here s (v .long) w 1 0 id-long p (omega arith) (omega arith) in
-            let m : max 1 (markOf 2 (eventOf r)) ≡ c = omega (arith, mark-range (markOf 2 (eventOf r)) (brings 2), z) in
+            let e = kept-free s v w (id-long r f) p z in
+            let n : entryAt (withPlace s w) (placeOf s w) ≡ waiting w = ap (λ (x : List ℕ). entryAt x (placeOf s w)) e ∙ placed.here s (v .long) w 1 0 (id-long r f) p (omega arith) (omega arith) in
+            let m : max 1 (markOf 2 (eventOf r)) ≡ c = omega (arith, mark-range (markOf 2 (eventOf r)) (brings r b f 2), z) in
             let o : max 0 (markOf 3 (eventOf r)) ≡ d = omega (arith, blank z) in
-            ap (λ (k : ℕ). put (withPlace s w) k (noted (entryAt (withPlace s w) k) r)) (own-here s v w id-long p)
+            ap (λ (k : ℕ). put (withPlace s w) k (noted (entryAt (withPlace s w) k) r)) (own-here s v w (id-long r f) p)
             ∙ ap₂ (λ (x y : List ℕ). put x (placeOf s w) (noted y r)) e n
-            ∙ ap (put (put s (placeOf s w) (waiting w)) (placeOf s w)) (ap₂ (entryOf w) (ap (λ (k : ℕ). max k (markOf 2 (eventOf r))) (entry-cancel w 1 0 id-long (omega arith)) ∙ m) (ap (λ (k : ℕ). max k (markOf 3 (eventOf r))) (entry-reissue w 1 0 id-long (omega arith)) ∙ o))
-            ∙ put-again s (v .long) (placeOf s w) p (waiting w) (entryOf w c d) (entry-of-long w 1 0 id-long) (entry-of-long w c d id-long)
+            ∙ ap (put (put s (placeOf s w) (waiting w)) (placeOf s w)) (ap₂ (entryOf w) (ap (λ (k : ℕ). max k (markOf 2 (eventOf r))) (entry-cancel w 1 0 (id-long r f) (omega arith)) ∙ m) (ap (λ (k : ℕ). max k (markOf 3 (eventOf r))) (entry-reissue w 1 0 (id-long r f) (omega arith)) ∙ o))
+            ∙ put-again s (v .long) (placeOf s w) p (waiting w) (entryOf w c d) (entry-of-long w 1 0 (id-long r f)) (entry-of-long w c d (id-long r f))
 
   -- recording where the place and the entry are those of s
   into-place : (s u : List ℕ) → placeOf (withPlace s u) w ≡ placeOf s w → entryAt (withPlace s u) (placeOf s w) ≡ entryAt s (placeOf s w)
@@ -204,7 +196,7 @@ module _ (r : List ℕ) (b : Bytes r) (f : fine r ≡ true) where
     pub record-twins : Twins (withRecord s r) s
     record-twins u k l =
         ap (λ (x : List ℕ). stops x u k) (is-put s v (o .low))
-        ∙ placed.places-stay s (v .long) w (c s v (o .low)) (d s v (o .low)) id-long (o .low) (c₁ s v (o .low)) (c₂ s v (o .low)) (o .busy) u k
+        ∙ placed.places-stay s (v .long) w (c s v (o .low)) (d s v (o .low)) (id-long r f) (o .low) (c₁ s v (o .low)) (c₂ s v (o .low)) (o .busy) u k
 
     -- what was taken is taken
     still-busy : (k : ℕ) → (free s k → ⊥) → free (withRecord s r) k → ⊥
@@ -237,15 +229,15 @@ module _ (r : List ℕ) (b : Bytes r) (f : fine r ≡ true) where
             let y : free (withRecord s r) (placeOf (withRecord s r) u) = ap (λ (k : ℕ). cancelOf (entryAt (withRecord s r) k)) q ∙ ap cancelOf (noted-there s v (o .low) (placeOf s u) n) ∙ z in
             into-place s u (own-place s v u h l w o) (own-entry s v u h l w o)
             ∙ ap (λ (x : List ℕ). put x (placeOf s w) (noted (entryAt s (placeOf s w)) r)) (kept-free s v u h l z)
-            ∙ put-swap s (v .long) (placeOf s u) l (waiting u) (noted (entryAt s (placeOf s w)) r) (entry-of-long u 1 0 h) (entry-of-long w (c s v (o .low)) (d s v (o .low)) id-long) (placeOf s w) (o .low) (λ e. n (sym e))
+            ∙ put-swap s (v .long) (placeOf s u) l (waiting u) (noted (entryAt s (placeOf s w)) r) (entry-of-long u 1 0 h) (entry-of-long w (c s v (o .low)) (d s v (o .low)) (id-long r f)) (placeOf s w) (o .low) (λ e. n (sym e))
             ∙ sym (kept-free (withRecord s r) (record-long s v (o .low)) u h low y ∙ ap₂ (λ (x : List ℕ) (k : ℕ). put x k (waiting u)) (is-put s v (o .low)) q)
 
   pub record-tidy : (s : List ℕ) → Tidy s → placeOf s w < 4096 → Tidy (withRecord s r)
   unfolding withRecord
   record-tidy s v p =
-      placed.tidy-put s v w _ _ id-long p
-      (larger-mark (cancelOf (entryAt s (placeOf s w))) (markOf 2 (eventOf r)) (tidy-cancel (entryAt s (placeOf s w)) (v .each (placeOf s w) p)) (brings 2))
-      (larger-mark (reissueOf (entryAt s (placeOf s w))) (markOf 3 (eventOf r)) (tidy-reissue (entryAt s (placeOf s w)) (v .each (placeOf s w) p)) (brings 3))
+      placed.tidy-put s v w _ _ (id-long r f) p
+      (larger-mark (cancelOf (entryAt s (placeOf s w))) (markOf 2 (eventOf r)) (tidy-cancel (entryAt s (placeOf s w)) (v .each (placeOf s w) p)) (brings r b f 2))
+      (larger-mark (reissueOf (entryAt s (placeOf s w))) (markOf 3 (eventOf r)) (tidy-reissue (entryAt s (placeOf s w)) (v .each (placeOf s w) p)) (brings r b f 3))
 
 -- the same test in twins
 goes-alike : (x y r : List ℕ) → Twins x y → goesIn x r ≡ goesIn y r
@@ -257,9 +249,6 @@ goes-both s r g = let b = both (fine r) (ltb (placeOf s (take 16 r)) 4096) g in 
 
 -- the first n records of t
 module _ (t : List ℕ) (b : Bytes t) where
-  pub part : (n : ℕ) → Bytes (recordAt t n)
-  part n = bytes-take 32 (bytes-drop (32 * n) b)
-
   -- of records that all have entries, as they are recorded one after the other: no look-up moves
   pub record Settled (z : List ℕ) (n : ℕ) : Type 0 where
     pub long : Long (recordedTo z t n)
@@ -276,9 +265,9 @@ module _ (t : List ℕ) (b : Bytes t) where
       let i = f n (omega arith) in
       let m = h .owned (take 16 r) (o n (omega arith)) in
       record {
-        long = record-long r (part n) i x (h .long) (m .low);
-        twins = λ u k l. record-twins r (part n) i x (h .long) m u k l ∙ h .twins u k l;
-        owned = λ u y. owned-after r (part n) i x (h .long) m u (h .owned u y);
+        long = record-long r (record-bytes t b n) i x (h .long) (m .low);
+        twins = λ u k l. record-twins r (record-bytes t b n) i x (h .long) m u k l ∙ h .twins u k l;
+        owned = λ u y. owned-after r (record-bytes t b n) i x (h .long) m u (h .owned u y);
       }
 
   -- a place reserved before them is a place reserved after them
@@ -291,7 +280,7 @@ module _ (t : List ℕ) (b : Bytes t) where
       let q : (k : ℕ) → k < n → Owned z (take 16 (recordAt t k)) = λ k i. o k (omega arith) in
       let h = settled z v n g q in
       ap (λ (x : List ℕ). withRecord x (recordAt t n)) (place-after z v u l p n g q)
-      ∙ record-then-place (recordAt t n) (part n) (f n (omega arith)) (recordedTo z t n) (h .long) (h .owned (take 16 (recordAt t n)) (o n (omega arith))) u l (omega (arith, same-place (recordedTo z t n) z u (h .twins), p))
+      ∙ record-then-place (recordAt t n) (record-bytes t b n) (f n (omega arith)) (recordedTo z t n) (h .long) (h .owned (take 16 (recordAt t n)) (o n (omega arith))) u l (omega (arith, same-place (recordedTo z t n) z u (h .twins), p))
 
   module _ (s : List ℕ) (v : Tidy s) where
     -- the first n records all go in, as they are reserved
@@ -318,18 +307,18 @@ module _ (t : List ℕ) (b : Bytes t) where
         let i = goes-both y r (g n (omega arith)) in
         let e = same-place x y u (h .twins) in
         let p : placeOf x u < 4096 = omega (arith, e, i .1) in
-        let m = id-long r (part n) (i .0) in
+        let m = id-long r (i .0) in
         let a = place-after y (h .long) u m (i .1) n (λ k l. goes-both (reservedTo s t k) (recordAt t k) (g k (omega arith)) .0) (h .owned) in
         record {
-          state = record-tidy r (part n) (i .0) x (h .state) p;
+          state = record-tidy r (record-bytes t b n) (i .0) x (h .state) p;
           long = place-long y (h .long) u m (i .1);
-          twins = twins-next r (part n) (i .0) x (tidy-long x (h .state)) p y (h .long) (h .twins);
+          twins = twins-next r (record-bytes t b n) (i .0) x (tidy-long x (h .state)) p y (h .long) (h .twins);
           owned = λ k l. ⊎-elim
               (λ q. subst (λ (j : ℕ). Owned (withPlace y u) (take 16 (recordAt t j))) (sym q) (owned-new y (h .long) u m (i .1)))
               (λ q. owned-still y (h .long) u m (i .1) (take 16 (recordAt t k)) (h .owned k q))
               (eq-or-lt-of-le {n = k} {m = n} (omega arith));
           same = ap (λ (z : List ℕ). withRecord z r) (a ∙ ap (λ (z : List ℕ). withPlace z u) (h .same))
-              ∙ reserved-recorded r (part n) (i .0) x (tidy-long x (h .state)) p (λ z. tidy-blank (entryAt x (placeOf x u)) (h .state .each (placeOf x u) p) z);
+              ∙ reserved-recorded r (record-bytes t b n) (i .0) x (tidy-long x (h .state)) p (λ z. tidy-blank (entryAt x (placeOf x u)) (h .state .each (placeOf x u) p) z);
         }
 
     -- the tests agree

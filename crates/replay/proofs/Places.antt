@@ -10,7 +10,7 @@ use borrow.Rule.Slice.PartMut.{putMid}
 use lib.ListN.{take, drop}
 use lib.Seq.{drop-drop}
 use Rattle.words.specs.Slices.{same}
-use Rattle.replay.specs.State.{entryAt, cancelOf, put, spreadOf, startOf, stepOf, slot, stops, seek, placeOf}
+use Rattle.replay.specs.State.{entryAt, cancelOf, put, spreadOf, slot, stops, seek, placeOf}
 
 -- the part of the state that is entry i
 pub part-is : (s : List ℕ) (i : ℕ) → take (32 * i + 32 - 32 * i) (drop (32 * i) s) ≡ entryAt s i

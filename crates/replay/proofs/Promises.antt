@@ -4,11 +4,9 @@ use mathlib.Core.Path.{_≡_, refl, sym, ap, ap₂, subst, _∙_}
 use mathlib.Core.Bool.{true, false}
 use mathlib.Core.Logic.{_↔_}
 use mathlib.Core.List.{List, []}
-use native.Mathlib.Omega.{arith}
-use lib.ListN.{length}
 use Rattle.replay.specs.Trace.{Event, countOf}
 use Rattle.replay.specs.Cancelled.{Held, Alike, AlikeButEdits}
-use Rattle.replay.specs.Acceptance.{distinct, Acceptable, FirstFault}
+use Rattle.replay.specs.Acceptance.{Acceptable, FirstFault}
 use Rattle.replay.specs.State.{isState, fresh}
 use Rattle.replay.specs.Replay.{loginOf, leftBy, stateAfter}
 use Rattle.replay.specs.Calls.{Replays, Stands, Call, Calls, accepted, StandsAs}
@@ -17,9 +15,8 @@ use Rattle.replay.specs.declared.Replayed.the-variants.{Accepted, Refuse
 use Rattle.replay.specs.declared.Login.{Login}
 use Rattle.replay.specs.declared.Stood.{Stood}
 use Rattle.replay.specs.declared.Stood.the-variants.{Of}
-use Rattle.replay.proofs.Count.{taken-most}
 use Rattle.replay.proofs.Marks.{markIn, marks-alike, cancelled-by, cancelled-but-edits}
-use Rattle.replay.proofs.Means.{Means}
+use Rattle.replay.proofs.Means.{Means, few}
 use Rattle.replay.proofs.Fresh.{fresh-means}
 use Rattle.replay.proofs.Verdicts.{accepted-fits, fits-accepted, refused-fault, fault-refused, verdict, verdict-state}
 use Rattle.replay.proofs.History.{replay-judges, calls-mean}
@@ -38,9 +35,6 @@ module _ (cs : List Call) (s : List ℕ) (c : Calls fresh cs s) where
   said : (u : List ℕ) (l : Login) → Stands s u (Of l) → StandsAs u (accepted cs) l
   said u l h = let t = stands-as u (Of l) h in let e : t .0 ≡ l = of-inj (sym (t .1)) in subst (StandsAs u (accepted cs)) e (t .2)
 
-  few : length (distinct (accepted cs)) ≤ 4096
-  few = omega (arith, means .count, taken-most s 4096)
-
   -- one call more
   module _ {t after : List ℕ} {a : Replayed} (r : Replays s t a after) where
     judges : a ≡ verdict (accepted cs) t (countOf t)
@@ -48,7 +42,7 @@ module _ (cs : List Call) (s : List ℕ) (c : Calls fresh cs s) where
 
     -- Q8.b "A trace with an unknown kind, a cut record or a non-zero pad is refused"; "At most 4,096 UUIDs, over all kinds and accepted traces": these alone are refused.
     pub accepted-exactly : (a ≡ Accepted) ↔ Acceptable (accepted cs) t
-    accepted-exactly = (λ e. accepted-fits (accepted cs) t few (sym judges ∙ e), λ f. judges ∙ fits-accepted (accepted cs) t f)
+    accepted-exactly = (λ e. accepted-fits (accepted cs) t (few s (accepted cs) means) (sym judges ∙ e), λ f. judges ∙ fits-accepted (accepted cs) t f)
 
     -- Q8.c "refused as 16 with the number of its first such record"; "the first record that needs one more is refused likewise"
     pub refused-exactly : (n : ℕ) → (a ≡ Refused n) ↔ FirstFault (accepted cs) t n

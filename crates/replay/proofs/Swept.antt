@@ -15,6 +15,7 @@ use Rattle.replay.specs.Waiting.{waiting, withPlace, reservedTo, sweptAt
 use Rattle.replay.proofs.Tests.{eq-or-ne}
 use Rattle.replay.proofs.Tidy.{Tidy, tidy-free, not-one}
 use Rattle.replay.proofs.Entries.{entry-cancel, entry-long, put-long, put-here, put-there, state-same}
+use Rattle.replay.proofs.Fine.{id-long}
 use Rattle.replay.proofs.Placed as placed
 use Rattle.replay.proofs.Placed.{free}
 use Rattle.replay.proofs.Sweeping.{swept-long}
@@ -66,7 +67,7 @@ module _ (t : List ℕ) (b : Bytes t) (s : List ℕ) (v : Tidy s) where
   reserved-to (suc n) g =
       let h = passes.passed t b s v n (λ k l. g k (omega arith)) in
       let i = goes-both (reservedTo s t n) (recordAt t n) (g n (omega arith)) in
-      reserved-next s (reservedTo s t n) (h .long) (reserved-to n (λ k l. g k (omega arith))) (take 16 (recordAt t n)) (passes.id-long (recordAt t n) (passes.part t b n) (i .0)) (i .1)
+      reserved-next s (reservedTo s t n) (h .long) (reserved-to n (λ k l. g k (omega arith))) (take 16 (recordAt t n)) (id-long (recordAt t n) (i .0)) (i .1)
 
 -- sweeping y, entry by entry
 module _ (y : List ℕ) (l : length y ≡ 131072) where

@@ -1,24 +1,22 @@
 -- What a state says of a login: of one that means the events es, what the largest marks of es say, and that is how the login stands. By the tests.
 use Prim.Native.Nat.{ℕ, _-_, _<_, _≤_}
-use mathlib.Core.Path.{_≡_, refl, sym, ap, ap₂, _∙_}
+use mathlib.Core.Path.{_≡_, refl, sym, ap₂, _∙_}
 use mathlib.Core.Bool.{Bool, true, false, cond}
-use mathlib.Core.Logic.{_↔_, ⊎-elim}
+use mathlib.Core.Logic.{⊎-elim}
 use mathlib.Core.List.{List}
 use native.Mathlib.Omega.{arith}
-use lib.Dec.{eqb, ltb, leb}
+use lib.Dec.{ltb, leb}
 use borrow.Author.Tests.{eq-eqb, lt-ltb, le-ltb, le-leb, leb-true, ltb-false}
 use lib.ListN.{length}
 use Rattle.replay.specs.Trace.{Event}
-use Rattle.replay.specs.Cancelled.{Cancelled}
-use Rattle.replay.specs.State.{entryAt, cancelOf, reissueOf, tidy, placeOf}
-use Rattle.replay.specs.Replay.{latestOf, closed, loginOf, toldOf, toldAt, standingOf}
+use Rattle.replay.specs.State.{placeOf}
+use Rattle.replay.specs.Replay.{latestOf, closed, loginOf, toldAt, standingOf}
 use Rattle.replay.specs.Calls.{LatestIs, StandsAs}
 use Rattle.replay.specs.declared.Login.{Login}
-use Rattle.replay.specs.declared.Stood.{Stood}
-use Rattle.replay.specs.declared.Stood.the-variants.{Of, NotAState}
+use Rattle.replay.specs.declared.Stood.the-variants.{Of}
 use Rattle.replay.proofs.Tests.{no, lt-or-ge}
 use Rattle.replay.proofs.Tidy.{Tidy}
-use Rattle.replay.proofs.Sound.{found, cancelFor, reissueFor}
+use Rattle.replay.proofs.Sound.{cancelFor, reissueFor}
 use Rattle.replay.proofs.Marks.{markIn, mark-latest, mark-none, marks-cancelled, cancelled-marks}
 use Rattle.replay.proofs.Means.{Means}
 

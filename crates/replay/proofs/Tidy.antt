@@ -1,5 +1,5 @@
 -- What a tidy entry holds, zeros or two marks, and what makes one: by the tests. A state's entries are all tidy: by recursion on their number.
-use Prim.Native.Nat.{ℕ, zero, suc, _+_, _^_, _<_, _≤_, max}
+use Prim.Native.Nat.{ℕ, zero, suc, _^_, _<_, _≤_, max}
 use mathlib.Core.Path.{_≡_, refl, sym, ap, _∙_}
 use mathlib.Core.Bool.{Bool, true, false, cond}
 use mathlib.Core.Logic.{_⊎_, ⊎-elim, inl, inr}
@@ -11,7 +11,7 @@ use borrow.Author.Tests.{eq-eqb, ne-eqb, lt-ltb, le-ltb, eqb-true, ltb-true}
 use lib.ListN.{length}
 use Rattle.words.specs.Numbers.{numberLow}
 use Rattle.words.specs.Slices.{zeros, same}
-use Rattle.words.proofs.SliceLaws.{same-refl, same-true}
+use Rattle.words.proofs.SliceLaws.{same-true}
 use Rattle.replay.specs.Trace.{Event}
 use Rattle.replay.specs.State.{entryAt, cancelOf, reissueOf, entryOf, isMark, tidy, tidyTo, isState, markOf}
 use Rattle.replay.proofs.Tests.{no, lt-or-ge, eq-or-ne}

@@ -85,7 +85,7 @@ fn larger(a: u64, b: u64) -> u64
     a
 }
 
-pub fn eight(part: &mut [u8], x: u64)
+fn eight(part: &mut [u8], x: u64)
     requires { ⌜ length (now part) ≡ 8 ⌝ }
     ensures { λ _. ⌜ now (part .exit) ≡ bytesLow 8 x ⌝ }
 {

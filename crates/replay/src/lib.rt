@@ -6,7 +6,6 @@ mod table;
 
 ghost use mathlib.Core.Path.{_≡_};
 ghost use mathlib.Core.Bool.{true};
-ghost use lib.ListN.{length};
 ghost use Rattle.replay.specs.State.{isState};
 ghost use Rattle.replay.specs.Calls.{Replays, Stands};
 

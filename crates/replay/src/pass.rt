@@ -7,9 +7,8 @@ ghost use mathlib.Core.Path.{_≡_};
 ghost use Prim.Native.Nat.{_*_};
 ghost use lib.ListN.{length, take};
 ghost use Rattle.replay.specs.Trace.{countOf};
-ghost use Rattle.replay.specs.State.{entryAt};
 ghost use Rattle.replay.specs.Replay.{goesIn, withRecord, recordedTo};
-ghost use Rattle.replay.specs.Waiting.{waiting, keptFor, reservedWith, Reserves, sweptAt, sweptTo, Owned, AllOwned};
+ghost use Rattle.replay.specs.Waiting.{keptFor, reservedWith, Reserves, sweptAt, sweptTo, Owned, AllOwned};
 
 // A free entry is kept for the UUID; a taken one stays as it is.
 fn keep(e: &mut [u8], u: &[u8])

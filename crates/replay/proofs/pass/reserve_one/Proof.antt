@@ -1,8 +1,8 @@
 -- `replay::pass::reserve_one` meets its contract: a fine record with a place changes its entry alone; any other changes nothing.
-use lib.ListN.{length, take, length-take, length-drop}
+use lib.ListN.{take, length-take, length-drop}
 use lib.Seq.{length-take-le}
 use native.Mathlib.Omega.{arith}
-use mathlib.Core.Path.{_≡_, refl, sym, ap, _∙_}
+use mathlib.Core.Path.{refl, sym, ap, _∙_}
 use Rattle.replay.specs.State.{entryAt, put}
 use Rattle.replay.specs.Waiting.{keptFor, withPlace}
 use Rattle.replay.proofs.Fine.{fine-whole, goes, no-place, not-in}
