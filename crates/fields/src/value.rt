@@ -107,13 +107,6 @@ fn record_shape(kind: u8) -> Shape
     Shape::Opaque
 }
 
-// Two words as one number, the low one first.
-fn joined(low: u32, high: u32) -> u64
-    ensures { λ r. ⌜ r ≡ low + 2 ^ 32 * high ⌝ }
-{
-    (low as u64) + 4294967296 * (high as u64)
-}
-
 fn uuid(d: &[u8]) -> Value
     ensures { λ r. ⌜ r ≡ shapedOf Shape.Uuid (now (d .entry)) ⌝ }
 {
@@ -124,7 +117,7 @@ fn uuid(d: &[u8]) -> Value
     let b = words::numbers::low(d[4], d[5], d[6], d[7]);
     let c = words::numbers::low(d[8], d[9], d[10], d[11]);
     let e = words::numbers::low(d[12], d[13], d[14], d[15]);
-    Value::Uuid(joined(a, b), joined(c, e))
+    Value::Uuid(words::numbers::joined(a, b), words::numbers::joined(c, e))
 }
 
 fn time(d: &[u8]) -> Value

@@ -11,12 +11,6 @@ ghost use Rattle.replay.specs.Trace.{eventOf, fine as fineOf, known as k
 ghost use Rattle.replay.specs.State.{spreadOf, entryOf, markOf, isMark as isMarkOf, noted, tidy as tidyOf};
 ghost use Rattle.replay.specs.Replay.{latestOf, closed as closedOf, toldOf};
 
-fn joined(a: u32, b: u32) -> u64
-    ensures { λ r. ⌜ (r ≡ a + 2 ^ 32 * b) ⌝ }
-{
-    (a as u64) + 4294967296 * (b as u64)
-}
-
 // The eight bytes at p as a number.
 pub fn mark(e: &[u8], p: usize) -> u64
     requires { ⌜ p + 8 ≤ length (now e) ⌝ }
@@ -24,7 +18,7 @@ pub fn mark(e: &[u8], p: usize) -> u64
 {
     let a = words::numbers::low(e[p], e[p + 1], e[p + 2], e[p + 3]);
     let b = words::numbers::low(e[p + 4], e[p + 5], e[p + 6], e[p + 7]);
-    joined(a, b)
+    words::numbers::joined(a, b)
 }
 
 // Which entries the look-up of a UUID visits, and in which order, hangs on this. No proof needs that it spreads; the speed does.

@@ -1,7 +1,7 @@
 // Numbers in bytes.
 ghost use mathlib.Core.Path.{_≡_};
 ghost use mathlib.Core.List.{[], _∷_};
-ghost use Prim.Native.Nat.{_%_, _<_, _^_};
+ghost use Prim.Native.Nat.{_+_, _*_, _%_, _<_, _^_};
 ghost use Rattle.words.specs.Numbers.{numberLow, numberHigh, byteOf};
 
 // The word of four bytes, the lowest first.
@@ -16,6 +16,13 @@ pub fn high(a: u8, b: u8, c: u8, d: u8) -> u32
     ensures { λ r. ⌜ r ≡ numberHigh (a ∷ b ∷ c ∷ d ∷ []) ⌝ }
 {
     (d as u32) + 256 * ((c as u32) + 256 * ((b as u32) + 256 * (a as u32)))
+}
+
+// Two words as one number, the low one first.
+pub fn joined(low: u32, high: u32) -> u64
+    ensures { λ r. ⌜ r ≡ low + 2 ^ 32 * high ⌝ }
+{
+    (low as u64) + 4294967296 * (high as u64)
 }
 
 // Byte i % 4 of a word, counted from the lowest.

@@ -1,0 +1,5 @@
+pub mod Login
+pub mod Days
+pub mod Fit
+pub mod Import
+pub mod Answers
