@@ -1,10 +1,9 @@
 -- The loop over the records finds what the definition finds: where it stands, what the records ahead give is what the body gives. And 16 bytes are a UUID by their value.
 use Prim.Native.Nat.{ℕ, _+_, _<_, _≤_}
-use mathlib.Core.Path.{_≡_, refl, sym, ap, subst, _∙_}
+use mathlib.Core.Path.{_≡_, refl, sym, ap, _∙_}
 use mathlib.Core.Bool.{Bool, true, false, cond, _&&_}
 use mathlib.Core.Logic.{⊎-elim}
 use mathlib.Core.List.{List, [], _∷_}
-use native.Mathlib.Nat.{zero-add}
 use native.Mathlib.Omega.{arith}
 use lib.Dec.{eqb}
 use lib.ListN.{length, take, drop}
@@ -19,12 +18,12 @@ use Rattle.fields.specs.declared.value.Value.the-variants as Value
 use Rattle.fields.proofs.value.Value as value
 use Rattle.body.specs.Division.{joined}
 use Rattle.body.specs.Sections.{runs, firstData}
-use Rattle.body.specs.Decision.{fieldsOf, wellFormed, headerIn, recordsIn}
-use Rattle.body.specs.RecordAt.{firstsOf, recordAt, contentAt}
+use Rattle.body.specs.Decision.{fieldsOf, wellFormed, recordsIn}
+use Rattle.body.specs.RecordAt.{recordAt, contentAt}
 use Rattle.body.specs.Find.{isUuid, has, firstWith, soughtIn}
 use Rattle.body.specs.declared.Sought.the-variants.{At, Nowhere}
 use Rattle.body.specs.declared.records.Record.{Record}
-use Rattle.body.proofs.Sectioned.{Left, Turn, left-start, left-turn, left-some, left-none, spot-content}
+use Rattle.body.proofs.Ahead.{Ahead, Met, ahead-start, ahead-turn, ahead-stop}
 
 -- ---- the UUID as a value
 module _ (d : List ℕ) (a b : ℕ) where
@@ -61,59 +60,46 @@ module _ (d : List ℕ) (a b : ℕ) where
 -- At place p the record of number n is next.
 pub record Hunts (s : List ℕ) (a b p n : ℕ) : Type 0 where
   records : List (List Stored)
-  left : Left s p records
+  ahead : Ahead s p records
   pub few : n ≤ p
   rest : firstWith a b n p records ≡ soughtIn a b (runs (fieldsOf s))
 
 pub hunts-start : (s : List ℕ) (a b : ℕ) (h : Record) → wellFormed s ≡ true → h ≡ recordAt s 0 → Hunts s a b (h .next) 0
 hunts-start s a b h w e =
-    let t = left-turn s 0 _ _ (left-start s w) in
-    let n : h .next ≡ recordAt s 0 .next = ap (λ (x : Record). x .next) e in
+    let t = ahead-start s h w e in
     record {
       records = recordsIn (runs (fieldsOf s));
-      left = rw n (t .left);
+      ahead = t .0;
       few = omega arith;
-      rest = ap (λ (q : ℕ). firstWith a b 0 q (recordsIn (runs (fieldsOf s)))) (n ∙ t .next ∙ ap (λ (x : ℕ). x + 16) (zero-add (length (joined (headerIn (runs (fieldsOf s)))))));
+      rest = ap (λ (q : ℕ). firstWith a b 0 q (recordsIn (runs (fieldsOf s)))) (t .1);
     }
 
 module _ (s : List ℕ) (a b p n : ℕ) (t : Hunts s a b p n) where
   pub hunts-stop : length s ≤ p → Nowhere ≡ soughtIn a b (runs (fieldsOf s))
   unfolding firstWith
-  hunts-stop h = ap (firstWith a b n p) (sym (left-none s (t .records) (t .left) h)) ∙ t .rest
+  hunts-stop h = ap (firstWith a b n p) (sym (ahead-stop s p (t .records) (t .ahead) h)) ∙ t .rest
 
   module _ (r : Record) (h : p < length s) (e : r ≡ recordAt s p) where
+    met : Met s p (t .records) r
+    met = ahead-turn s p (t .records) r (t .ahead) h e
+
     abbrev u : List Stored
-    u = left-some s (t .records) (t .left) h .0
+    u = met .u
 
     abbrev us : List (List Stored)
-    us = left-some s (t .records) (t .left) h .1
-
-    ahead : t .records ≡ u ∷ us
-    ahead = left-some s (t .records) (t .left) h .2
-
-    turn : Turn s p u us
-    turn = left-turn s p u us (subst (Left s p) ahead (t .left))
-
-    next-is : r .next ≡ p + length (joined u) + 16
-    next-is = ap (λ (x : Record). x .next) e ∙ turn .next
-
-    next-left : Left s (r .next) us
-    next-left = subst (λ (x : Record). Left s (x .next) us) (sym e) (turn .left)
+    us = met .us
 
     pub hunts-further : (p + 16 ≤ r .next) × (r .next ≤ length s)
-    hunts-further = (omega (arith, next-is), omega (arith, next-left .reach))
+    hunts-further = (omega (arith, met .next), met .within)
 
     next : cond (has a b u) (At n p) (firstWith a b (n + 1) (p + length (joined u) + 16) us) ≡ soughtIn a b (runs (fieldsOf s))
     unfolding firstWith
-    next = ap (firstWith a b n p) (sym ahead) ∙ t .rest
+    next = ap (firstWith a b n p) (sym (met .are)) ∙ t .rest
 
     -- what stands at the spot of the UUID
     module _ (d : List ℕ) (k : d ≡ contentAt s (r .firsts .uuid)) where
       tested : has a b u ≡ isUuid d a b
-      unfolding recordAt firstsOf
-      tested =
-          ap (λ (x : List ℕ). isUuid x a b)
-          (ap (firstData 0x01) (sym (turn .here)) ∙ sym (spot-content s 0x01 p) ∙ ap (λ (x : Record). contentAt s (x .firsts .uuid)) (sym e) ∙ sym k)
+      tested = ap (λ (x : List ℕ). isUuid x a b) (sym (k ∙ met .uuid))
 
       pub hunts-found : isUuid d a b ≡ true → At n p ≡ soughtIn a b (runs (fieldsOf s))
       hunts-found m = ap (λ (x : Bool). cond x (At n p) (firstWith a b (n + 1) (p + length (joined u) + 16) us)) (sym (tested ∙ m)) ∙ next
@@ -122,8 +108,8 @@ module _ (s : List ℕ) (a b p n : ℕ) (t : Hunts s a b p n) where
       hunts-next m =
           record {
             records = us;
-            left = next-left;
-            few = omega (arith, t .few, next-is);
-            rest = ap (λ (q : ℕ). firstWith a b (n + 1) q us) next-is
+            ahead = met .ahead;
+            few = omega (arith, t .few, met .next);
+            rest = ap (λ (q : ℕ). firstWith a b (n + 1) q us) (met .next)
                 ∙ ap (λ (x : Bool). cond x (At n p) (firstWith a b (n + 1) (p + length (joined u) + 16) us)) (sym (tested ∙ m)) ∙ next;
           }

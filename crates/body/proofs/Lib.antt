@@ -6,6 +6,7 @@ mod OnceTypes
 mod Verdict
 pub mod Along
 pub mod Sectioned
+pub mod Ahead
 mod Keeps
 mod FirstField
 mod Stands

@@ -11,6 +11,7 @@ use lib.Dec.{eqb}
 use lib.ListN.{length, take, drop, length-append}
 use lib.Seq.{take-at}
 use borrow.Author.Tests.{eqb-true}
+use Rattle.words.specs.Each.{Each}
 use Rattle.words.proofs.EachLaws.{both}
 use Rattle.fields.specs.Stored.{Stored, bytesOf, roomOf}
 use Rattle.fields.specs.Walk.{walkOf, lenAt, endWithData, fieldAt, after}
@@ -20,6 +21,7 @@ use Rattle.fields.specs.declared.Walked.the-variants.{Took, Finished, Misplaced
 use Rattle.fields.proofs.Outcomes.{taken, forward}
 use Rattle.body.specs.Division.{joined}
 use Rattle.body.specs.Sections.{isEnd, runs, firstData}
+use Rattle.body.specs.WellFormed.{GoodRecord}
 use Rattle.body.specs.Decision.{storedAt, fieldsOf, takenFrom, exactFrom, endsEmpty, versionFirst, wellFormed, headerIn, recordsIn}
 use Rattle.body.specs.RecordAt.{beforeEnd, behindEnd, spotOf, recordAt, contentAt}
 use Rattle.body.proofs.Division.{stored-long, data-long}
@@ -215,17 +217,24 @@ module _ (s : List ℕ) where
   left-none (u ∷ us) l h = absurd (left-before l h)
 
   -- the whole body: the header and the records
-  pub left-start : wellFormed s ≡ true → Left s 0 (headerIn (runs (fieldsOf s)) ∷ recordsIn (runs (fieldsOf s)))
+  sections-are : wellFormed s ≡ true
+      → (exactFrom s 0 ≡ true) × (endsEmpty (fieldsOf s) ≡ true)
+      × (runs (fieldsOf s) ≡ headerIn (runs (fieldsOf s)) ∷ (recordsIn (runs (fieldsOf s)) ++ ([] ∷ []))) × Each GoodRecord (recordsIn (runs (fieldsOf s)))
   unfolding wellFormed
-  left-start h =
+  sections-are h =
       let x = both (exactFrom s 0) _ h in
       let y = both (endsEmpty (fieldsOf s)) _ (x .1) in
       let z = both (versionFirst (fieldsOf s)) _ (y .1) in
       let t = sections-in (runs (fieldsOf s)) (z .1) in
       let rs = t .1 in
       let n : length rs ≡ length (rs ++ ([] ∷ [])) - 1 = simp length-append (omega arith) in
-      let all : takenFrom s 0 ≡ fieldsOf s = walkable-all (fieldsOf s) (y .0) in
-      record {
-        reach = ap (λ (l : List Stored). 0 + length (joined l)) all ∙ eqb-true _ _ (x .0);
-        parted = ap runs all ∙ rw (t .2, take-at rs ([] ∷ []) (length (rs ++ ([] ∷ [])) - 1) n);
-      }
+      (x .0, y .0, rw (t .2, take-at rs ([] ∷ []) (length (rs ++ ([] ∷ [])) - 1) n), rw (t .2, take-at rs ([] ∷ []) (length (rs ++ ([] ∷ [])) - 1) n) (t .4))
+
+  pub left-start : wellFormed s ≡ true → Left s 0 (headerIn (runs (fieldsOf s)) ∷ recordsIn (runs (fieldsOf s)))
+  left-start h =
+      let x = sections-are h in
+      let all : takenFrom s 0 ≡ fieldsOf s = walkable-all (fieldsOf s) (x .1) in
+      record { reach = ap (λ (l : List Stored). 0 + length (joined l)) all ∙ eqb-true _ _ (x .0); parted = ap runs all ∙ x .2 }
+
+  pub good-start : wellFormed s ≡ true → Each GoodRecord (recordsIn (runs (fieldsOf s)))
+  good-start h = sections-are h .3

@@ -1,0 +1,4 @@
+pub mod Record
+pub mod Export
+pub mod Says
+pub mod Answers
