@@ -1,1 +1,3 @@
-
+mod Checks
+mod Fills
+pub mod Answered
