@@ -35,7 +35,7 @@ module _ (n i : ℕ) (w r : List ℕ) (l : Laid n i w r) where
       record {
         far = h;
         long = length-append w (padded k d) ∙ rw (l .long, padded-long k d);
-        is = rw (l .is) (put-next w (padded k d) (zeros (n - i)) y i k (l .long) p) ∙ rw (drop-same 0 k (n - i) (omega arith), m);
+        is = rw (l .is) (put-next w (padded k d) (zeros (n - i)) y i k (l .long) p ∙ rw (drop-same 0 k (n - i) (omega arith), m));
       }
 
   pub laid-byte : (a : ℕ) → i < n → Laid n (i + 1) (w ++ (a ∷ [])) (set r i a)
