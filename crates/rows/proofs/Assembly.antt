@@ -6,7 +6,7 @@ use native.Mathlib.Omega.{arith}
 use lib.ListN.{length, take, drop, set, length-append, length-replicate}
 use lib.Seq.{drop-at, set-at}
 use borrow.Rule.Slice.PartMut.{putMid}
-use Rattle.words.specs.Numbers.{bytesLow, byteOf}
+use Rattle.words.specs.Numbers.{byteOf}
 use Rattle.words.specs.Slices.{zeros, copied}
 use Rattle.words.proofs.ByteLaws.{drop-same}
 use Rattle.words.proofs.NumberLaws.{four-low}

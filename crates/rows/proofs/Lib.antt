@@ -4,3 +4,4 @@ pub mod Rounding
 pub mod Padding
 pub mod Assembly
 pub mod Columns
+pub mod Taking

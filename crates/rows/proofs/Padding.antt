@@ -1,9 +1,9 @@
 -- A text over zeros is the text padded with zeros, whatever the lengths are: by recursion on the width.
 use Prim.Native.Nat.{ℕ, zero, suc, _+_, _-_, _≤_}
-use mathlib.Core.Path.{_≡_, refl, sym, ap, _∙_}
+use mathlib.Core.Path.{_≡_, sym, ap, _∙_}
 use mathlib.Core.List.{List, [], _∷_, _++_}
 use native.Mathlib.Omega.{arith}
-use lib.ListN.{length, take, drop, replicate, length-take, length-append, length-replicate, replicate-append-replicate}
+use lib.ListN.{length, take, drop, length-take, length-append, length-replicate, replicate-append-replicate}
 use lib.Seq.{take-at, drop-nil}
 use Rattle.words.specs.Slices.{zeros, copied}
 use Rattle.rows.specs.Login.{padded}

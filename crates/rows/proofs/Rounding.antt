@@ -1,5 +1,5 @@
 -- Days in words: of an expiry ahead the whole days to it, of one behind a day for each that has begun. By arithmetic: 2^32 days more keep every difference above 0.
-use Prim.Native.Nat.{ℕ, _+_, _-_, _*_, _/_, _%_, _^_, _<_, _≤_}
+use Prim.Native.Nat.{ℕ, _+_, _-_, _*_, _/_, _^_, _<_, _≤_}
 use mathlib.Core.Path.{_≡_, _∙_}
 use native.Mathlib.Nat.{mod-eq-of-lt}
 use native.Mathlib.Omega.{arith}

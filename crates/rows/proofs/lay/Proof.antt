@@ -33,10 +33,10 @@ returns c =
     let two = laid-part 256 16 _ _ one 80 (a .title .now) _ (omega arith) (c .before .before .before .before .before .before .before .before .before .before .before .copy2 .ensures) in
     let three = laid-part 256 96 _ _ two 80 (a .user .now) _ (omega arith) (c .before .before .before .before .before .before .before .before .copy3 .ensures) in
     let four = laid-part 256 176 _ _ three 72 (a .group .now) _ (omega arith) (c .before .before .before .before .before .copy4 .ensures) in
-    let five = laid-byte 256 248 _ _ four _ (omega arith) in
-    let six = laid-byte 256 249 _ _ five _ (omega arith) in
-    let seven = laid-byte 256 250 _ _ six _ (omega arith) in
-    let eight = laid-byte 256 251 _ _ seven _ (omega arith) in
+    let five = laid-byte 256 248 _ _ four (c .before .before .before .byte .result) (omega arith) in
+    let six = laid-byte 256 249 _ _ five (c .before .before .byte2 .result) (omega arith) in
+    let seven = laid-byte 256 250 _ _ six (c .before .byte3 .result) (omega arith) in
+    let eight = laid-byte 256 251 _ _ seven (c .byte4 .result) (omega arith) in
     is-row _ _ _ _ _ _ (c .before .before .before .byte .ensures) (c .before .before .byte2 .ensures) (c .before .byte3 .ensures) (c .byte4 .ensures) eight
 
 pub lay-spec : {M : Type 1} → statement M

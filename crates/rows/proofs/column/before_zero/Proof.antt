@@ -1,6 +1,6 @@
 -- `rows::column::before_zero` meets its contract: what is passed and what is left make the whole.
 use Prim.Native.Nat.{_+_, _-_, _≤_}
-use mathlib.Core.Path.{_≡_, refl}
+use mathlib.Core.Path.{_≡_}
 use lib.ListN.{length, drop}
 use Rattle.rows.specs.Import.{beforeZero}
 use Rattle.rows.proofs.Zero.{zero-found, zero-on, zero-none}

@@ -1,5 +1,4 @@
 -- `rows::column::fine` meets its contract: the text, and what is after it, are the definition's.
-use lib.ListN.{length}
 use Rattle.rows.proofs.Columns.{column-unfit, column-rest}
 use borrow.Author.Needs.{needs}
 use Rattle.rows.proofs.column.fine.Statement.{statement}

@@ -1,7 +1,6 @@
 -- `rows::days::days` meets its contract: each return is the case of the definition that its test picks.
-use mathlib.Core.Path.{sym, ap, _∙_}
 use borrow.Author.Tests.{eq-eqb, ne-eqb}
-use Rattle.rows.specs.Days.{secondsIn, daysOf}
+use Rattle.rows.specs.Days.{daysOf}
 use borrow.Author.Needs.{needs}
 use Rattle.rows.proofs.days.days.Statement.{statement}
 use Rattle.rows.proofs.days.days.Tie as tie
