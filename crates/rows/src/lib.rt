@@ -1,8 +1,8 @@
 // The rows of the login table: one laid, and a table of them taken back.
 pub mod answers;
+mod column;
 pub mod days;
 pub mod fit;
-mod column;
 
 ghost use mathlib.Core.Path.{_≡_};
 ghost use lib.ListN.{length};
