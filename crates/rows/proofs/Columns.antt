@@ -42,9 +42,12 @@ module _ (r : List ℕ) (h : length r ≡ 256) where
   column-long : (p n : ℕ) → p + n ≤ 256 → length (column p n r) ≡ n
   column-long p n l = simp (length-take, length-drop) (omega arith)
 
+  as-wide : (k p n : ℕ) (x : Bool) → p + n ≤ 256 → FineAs k (column p n r) x → fineColumn k n (column p n r) ≡ x
+  as-wide k p n x l e = ap (λ (m : ℕ). fineColumn k m (column p n r)) (sym (column-long p n l)) ∙ sym e
+
   module _ (a : Bool) (p : FineAs 0x03 (column 16 80 r) a) where
     title : fineColumn 0x03 80 (column 16 80 r) ≡ a
-    title = ap (λ (n : ℕ). fineColumn 0x03 n (column 16 80 r)) (sym (column-long 16 80 (omega arith))) ∙ sym p
+    title = as-wide 0x03 16 80 a (omega arith) p
 
     pub bad-title : a ≡ false → false ≡ fineRow r
     unfolding fineRow
@@ -52,7 +55,7 @@ module _ (r : List ℕ) (h : length r ≡ 256) where
 
     module _ (b : Bool) (q : FineAs 0x04 (column 96 80 r) b) (a-true : a ≡ true) where
       user : fineColumn 0x04 80 (column 96 80 r) ≡ b
-      user = ap (λ (n : ℕ). fineColumn 0x04 n (column 96 80 r)) (sym (column-long 96 80 (omega arith))) ∙ sym q
+      user = as-wide 0x04 96 80 b (omega arith) q
 
       pub bad-user : b ≡ false → false ≡ fineRow r
       unfolding fineRow
@@ -60,7 +63,7 @@ module _ (r : List ℕ) (h : length r ≡ 256) where
 
       module _ (c : Bool) (s : FineAs 0x02 (column 176 72 r) c) (b-true : b ≡ true) where
         group : fineColumn 0x02 72 (column 176 72 r) ≡ c
-        group = ap (λ (n : ℕ). fineColumn 0x02 n (column 176 72 r)) (sym (column-long 176 72 (omega arith))) ∙ sym s
+        group = as-wide 0x02 176 72 c (omega arith) s
 
         pub bad-group : c ≡ false → false ≡ fineRow r
         unfolding fineRow
@@ -70,9 +73,15 @@ module _ (r : List ℕ) (h : length r ≡ 256) where
         unfolding fineRow
         good-texts x t e = e ∙ rw (eq-eqb (length r) 256 h, title, a-true, user, b-true, group, t)
 
-  -- the halves of a UUID
   length-text : (c : List ℕ) (z : ℕ) → (z ≡ beforeZero c) × (z ≤ length c) → z ≡ length (take (beforeZero c) c)
   length-text c z e = e .0 ∙ sym (length-take-le (beforeZero c) c (rw (← e .0) (e .1)))
+
+  -- the second half of the UUID
+  half : take 8 (drop 8 (take 16 r)) ≡ column 8 8 r
+  half =
+      let l : length (column 8 8 r) ≤ 8 = omega (arith, column-long 8 8 (omega arith)) in
+      ap (λ (x : List ℕ). take 8 (drop 8 x)) (take-add 8 8 r)
+      ∙ rw (drop-at (take 8 r) (column 8 8 r) 8 (length-take-le 8 r (omega arith))) (take-all 8 (column 8 8 r) l)
 
   pub read-is : (low high title user group days : ℕ) → low ≡ numberLow (take 8 r) → high ≡ numberLow (column 8 8 r)
       → (title ≡ beforeZero (column 16 80 r)) × (title ≤ length (column 16 80 r))
@@ -83,5 +92,4 @@ module _ (r : List ℕ) (h : length r ≡ 256) where
   unfolding loginIn
   read-is low high title user group days a b p q s d =
       let x : take 8 (take 16 r) ≡ take 8 r = take-take 8 16 r (omega arith) in
-      let y : take 8 (drop 8 (take 16 r)) ≡ column 8 8 r = ap (λ (l : List ℕ). take 8 (drop 8 l)) (take-add 8 8 r) ∙ rw (drop-at (take 8 r) (column 8 8 r) 8 (length-take-le 8 r (omega arith))) (take-all 8 (column 8 8 r) (omega (arith, column-long 8 8 (omega arith)))) in
-      rw (x, y, four-at r 248 (omega arith), ← a, ← b, ← d, ← length-text (column 16 80 r) title p, ← length-text (column 96 80 r) user q, ← length-text (column 176 72 r) group s)
+      rw (x, half, four-at r 248 (omega arith), ← a, ← b, ← d, ← length-text (column 16 80 r) title p, ← length-text (column 96 80 r) user q, ← length-text (column 176 72 r) group s)

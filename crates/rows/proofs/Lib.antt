@@ -5,3 +5,5 @@ pub mod Padding
 pub mod Assembly
 pub mod Columns
 pub mod Taking
+pub mod Texts
+pub mod Back

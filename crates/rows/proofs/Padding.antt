@@ -1,10 +1,10 @@
 -- A text over zeros is the text padded with zeros, whatever the lengths are: by recursion on the width.
 use Prim.Native.Nat.{ℕ, zero, suc, _+_, _-_, _≤_}
 use mathlib.Core.Path.{_≡_, sym, ap, _∙_}
-use mathlib.Core.List.{List, [], _∷_, _++_}
+use mathlib.Core.List.{List, [], _∷_, _++_, append-nil}
 use native.Mathlib.Omega.{arith}
 use lib.ListN.{length, take, drop, length-take, length-append, length-replicate, replicate-append-replicate}
-use lib.Seq.{take-at, drop-nil}
+use lib.Seq.{take-at, take-append-add, drop-nil}
 use Rattle.words.specs.Slices.{zeros, copied}
 use Rattle.rows.specs.Login.{padded}
 
@@ -27,3 +27,13 @@ over-zeros n d = rw (length-replicate {A = ℕ} n 0) (over n n d (omega arith))
 pub padded-long : (n : ℕ) (d : List ℕ) → length (padded n d) ≡ n
 unfolding padded
 padded-long n d = simp (length-take, length-append, length-replicate) (omega arith)
+
+module _ (n : ℕ) (d : List ℕ) (h : length d ≤ n) where
+  pub padded-is : padded n d ≡ d ++ zeros (n - length d)
+  unfolding padded
+  padded-is =
+      let e : n ≡ length d + (n - length d) = omega arith in
+      ap (λ (k : ℕ). take k (d ++ zeros n)) e ∙ take-append-add d (zeros n) (n - length d) ∙ rw (take-zeros (n - length d) n (omega arith))
+
+pub padded-full : (n : ℕ) (d : List ℕ) → length d ≡ n → padded n d ≡ d
+padded-full n d h = let z : n - length d ≡ 0 = omega arith in padded-is n d (omega arith) ∙ rw z (append-nil d)
