@@ -17,7 +17,7 @@ use Rattle.body.specs.RecordAt.{recordAt}
 use Rattle.body.specs.declared.records.Record.{Record}
 use Rattle.body.proofs.Ahead.{Ahead, Met, ahead-start, ahead-turn, ahead-stop}
 use Rattle.rows.specs.Login.{rowOf, tableOf}
-use Rattle.rows.proofs.Padding.{row-long}
+use Rattle.rows.proofs.Back.{row-long}
 use Rattle.logins.specs.Record.{loginOf, faultOf}
 use Rattle.logins.specs.Export.{recordsAre, checkedFrom, rowsOf, loginAt}
 use Rattle.logins.specs.declared.Checked.{Checked}

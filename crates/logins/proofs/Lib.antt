@@ -1,3 +1,4 @@
 mod Checks
 mod Fills
-pub mod Answered
+mod Answered
+pub mod Promises

@@ -7,3 +7,5 @@ pub mod Columns
 pub mod Taking
 pub mod Texts
 pub mod Back
+pub mod Tables
+pub mod Promises

@@ -2,4 +2,5 @@ pub mod Login
 pub mod Days
 pub mod Fit
 pub mod Import
+pub mod Says
 pub mod Answers
