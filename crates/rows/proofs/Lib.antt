@@ -7,3 +7,4 @@ pub mod Columns
 pub mod Taking
 pub mod Texts
 pub mod Back
+pub mod Cases
