@@ -47,11 +47,8 @@ module _ (n i : ℕ) (w r : List ℕ) (l : Laid n i w r) where
         is = rw (l .is, m, set-at w 0 (zeros (n - (i + 1))) a i (l .long)) (sym (append-assoc w (a ∷ []) (zeros (n - (i + 1)))));
       }
 
-  pub laid-all : r ≡ w ++ zeros (n - i)
-  laid-all = l .is
-
 pub is-row : (l : Login) (a b c d : ℕ) (r : List ℕ) → a ≡ byteOf 0 (l .days) → b ≡ byteOf 1 (l .days) → c ≡ byteOf 2 (l .days) → d ≡ byteOf 3 (l .days)
     → Laid 256 252 ((((((((([] ++ padded 16 (l .uuid)) ++ padded 80 (l .title)) ++ padded 80 (l .user)) ++ padded 72 (l .group)) ++ (a ∷ [])) ++ (b ∷ [])) ++ (c ∷ [])) ++ (d ∷ []))) r
     → r ≡ rowOf l
 unfolding rowOf
-is-row l a b c d r p q s t h = laid-all 256 252 _ r h ∙ simp append-assoc (rw (four-low (l .days), p, q, s, t))
+is-row l a b c d r p q s t h = h .is ∙ simp append-assoc (rw (four-low (l .days), p, q, s, t))

@@ -1,23 +1,23 @@
 -- A row and its login are each other's: what fits comes back from its row, and a fine row is the row of what it holds. Part by part: a row is its columns, one after the other.
-use Prim.Native.Nat.{ℕ, _+_, _*_, _^_, _<_, _≤_}
+use Prim.Native.Nat.{ℕ, _+_, _*_, _^_, _<_}
 use mathlib.Core.Path.{_≡_, refl, sym, ap, subst, _∙_}
-use mathlib.Core.Bool.{Bool, true, _&&_}
-use mathlib.Core.List.{List, [], _∷_, _++_, append-nil}
+use mathlib.Core.Bool.{true}
+use mathlib.Core.List.{List, _++_}
 use native.Mathlib.Nat.{mod-eq-of-lt}
 use native.Mathlib.Omega.{arith}
 use lib.Dec.{eqb}
-use lib.ListN.{length, take, drop, length-take, length-drop, length-append, length-replicate, take-append-drop, drop-of-length-le}
+use lib.ListN.{length, take, drop, length-take, length-drop, length-append, take-append-drop}
 use lib.Seq.{take-at, take-all, drop-at, drop-drop, length-take-le}
 use borrow.Author.Tests.{eq-eqb, eqb-true}
 use Rattle.words.specs.Numbers.{numberLow, bytesLow, Bytes}
-use Rattle.words.specs.Slices.{zeros, same}
+use Rattle.words.specs.Slices.{zeros}
 use Rattle.words.proofs.ByteLaws.{bytes-take, bytes-drop}
 use Rattle.words.proofs.NumberLaws.{number-bytes, bytes-number, number-fits, bytes-sized}
 use Rattle.words.proofs.SliceLaws.{same-refl, same-true}
 use Rattle.words.proofs.EachLaws.{both}
 use Rattle.rows.specs.Login.{Login, padded, rowOf}
 use Rattle.rows.specs.Fit.{Fits}
-use Rattle.rows.specs.Import.{column, textIn, fineColumn, fineRow, loginIn}
+use Rattle.rows.specs.Import.{column, fineColumn, fineRow, loginIn}
 use Rattle.rows.proofs.Padding.{padded-long, padded-full}
 use Rattle.rows.proofs.Texts.{text-back, text-fine, fine-text, fine-column}
 
@@ -58,20 +58,20 @@ row-long l = simp (length-append, padded-long, bytes-sized 4 (l .days) .long)
 
 -- ==== What fits is fine, and comes back.
 module _ (l : Login) (f : Fits l) where
-  h : Holds l (rowOf l)
-  h = row-holds l
+  held : Holds l (rowOf l)
+  held = row-holds l
 
   pub fits-fine : fineRow (rowOf l) ≡ true
   unfolding fineRow
   fits-fine =
-      let p : column 252 4 (rowOf l) ≡ zeros 4 = ap (take 4) (h .pad) in
+      let p : column 252 4 (rowOf l) ≡ zeros 4 = ap (take 4) (held .pad) in
       rw (
         eq-eqb (length (rowOf l)) 256 (row-long l),
-        h .title,
+        held .title,
         text-fine 0x03 80 (l .title) (f .title),
-        h .user,
+        held .user,
         text-fine 0x04 80 (l .user) (f .user),
-        h .group,
+        held .group,
         text-fine 0x02 72 (l .group) (f .group),
         p,
       ) (same-refl (zeros 4))
@@ -81,15 +81,15 @@ module _ (l : Login) (f : Fits l) where
   fits-back =
       let n : numberLow (bytesLow 4 (l .days)) ≡ l .days = number-bytes 4 (l .days) ∙ mod-eq-of-lt {n = l .days} {m = 2 ^ 32} (f .days) in
       rw (
-        h .uuid,
+        held .uuid,
         padded-full 16 (l .uuid) (f .uuid),
-        h .title,
+        held .title,
         text-back 0x03 80 (l .title) (f .title),
-        h .user,
+        held .user,
         text-back 0x04 80 (l .user) (f .user),
-        h .group,
+        held .group,
         text-back 0x02 72 (l .group) (f .group),
-        h .days,
+        held .days,
         n,
       )
 
@@ -111,23 +111,23 @@ tested r h =
     record { long = eqb-true (length r) 256 (a .0); title = b .0; user = c .0; group = d .0; pad = same-true (column 252 4 r) (zeros 4) (d .1) }
 
 module _ (r : List ℕ) (b : Bytes r) (f : fineRow r ≡ true) where
-  t : Tested r
-  t = tested r f
+  passed : Tested r
+  passed = tested r f
 
   uuid-long : length (take 16 r) ≡ 16
-  uuid-long = length-take-le 16 r (omega (arith, t .long))
+  uuid-long = length-take-le 16 r (omega (arith, passed .long))
 
   days-long : length (column 248 4 r) ≡ 4
-  days-long = simp (length-take, length-drop) (omega (arith, t .long))
+  days-long = simp (length-take, length-drop) (omega (arith, passed .long))
 
   pub fine-fits : Fits (loginIn r)
   unfolding loginIn
   fine-fits =
       record {
         uuid = uuid-long;
-        title = fine-text 0x03 80 (column 16 80 r) (t .title);
-        user = fine-text 0x04 80 (column 96 80 r) (t .user);
-        group = fine-text 0x02 72 (column 176 72 r) (t .group);
+        title = fine-text 0x03 80 (column 16 80 r) (passed .title);
+        user = fine-text 0x04 80 (column 96 80 r) (passed .user);
+        group = fine-text 0x02 72 (column 176 72 r) (passed .group);
         days = subst (λ (k : ℕ). numberLow (column 248 4 r) < 2 ^ (8 * k)) days-long (number-fits (bytes-take 4 (bytes-drop 248 b)));
       }
 
@@ -137,9 +137,9 @@ module _ (r : List ℕ) (b : Bytes r) (f : fineRow r ≡ true) where
       holds-row (loginIn r) r
       record {
         uuid = sym (padded-full 16 (take 16 r) uuid-long);
-        title = sym (fine-column 0x03 80 (column 16 80 r) (t .title));
-        user = sym (fine-column 0x04 80 (column 96 80 r) (t .user));
-        group = sym (fine-column 0x02 72 (column 176 72 r) (t .group));
+        title = sym (fine-column 0x03 80 (column 16 80 r) (passed .title));
+        user = sym (fine-column 0x04 80 (column 96 80 r) (passed .user));
+        group = sym (fine-column 0x02 72 (column 176 72 r) (passed .group));
         days = sym (ap (λ (k : ℕ). bytesLow k (numberLow (column 248 4 r))) (sym days-long) ∙ bytes-number (bytes-take 4 (bytes-drop 248 b)));
-        pad = sym (take-all 4 (drop 252 r) (simp length-drop (omega (arith, t .long)))) ∙ t .pad;
+        pad = sym (take-all 4 (drop 252 r) (simp length-drop (omega (arith, passed .long)))) ∙ passed .pad;
       }

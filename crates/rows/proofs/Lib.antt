@@ -1,11 +1,12 @@
-pub mod Tags
-pub mod Zero
+mod Tags
+mod Zero
 pub mod Rounding
-pub mod Padding
-pub mod Assembly
-pub mod Columns
-pub mod Taking
-pub mod Texts
+mod Padding
+mod Assembly
+mod Columns
+mod Taking
+mod Texts
 pub mod Back
 pub mod Tables
 pub mod Promises
+mod Cases

@@ -28,12 +28,13 @@ pub padded-long : (n : ℕ) (d : List ℕ) → length (padded n d) ≡ n
 unfolding padded
 padded-long n d = simp (length-take, length-append, length-replicate) (omega arith)
 
-module _ (n : ℕ) (d : List ℕ) (h : length d ≤ n) where
-  pub padded-is : padded n d ≡ d ++ zeros (n - length d)
-  unfolding padded
-  padded-is =
-      let e : n ≡ length d + (n - length d) = omega arith in
-      ap (λ (k : ℕ). take k (d ++ zeros n)) e ∙ take-append-add d (zeros n) (n - length d) ∙ rw (take-zeros (n - length d) n (omega arith))
+pub padded-is : (n : ℕ) (d : List ℕ) → length d ≤ n → padded n d ≡ d ++ zeros (n - length d)
+unfolding padded
+padded-is n d h =
+    let e : n ≡ length d + (n - length d) = omega arith in
+    ap (λ (k : ℕ). take k (d ++ zeros n)) e
+    ∙ take-append-add d (zeros n) (n - length d)
+    ∙ rw (take-zeros (n - length d) n (omega arith))
 
 pub padded-full : (n : ℕ) (d : List ℕ) → length d ≡ n → padded n d ≡ d
 padded-full n d h = let z : n - length d ≡ 0 = omega arith in padded-is n d (omega arith) ∙ rw z (append-nil d)

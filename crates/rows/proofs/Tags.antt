@@ -7,6 +7,7 @@ use lib.Dec.{eqb}
 use types.Run.{OneOf, miss}
 use denote.Enum.Declared.{tagOf}
 use borrow.Author.Tests.{ne-eqb}
+use Rattle.words.specs.Members.{to}
 use Rattle.fields.specs.declared.value.Value.{Value}
 use Rattle.fields.specs.declared.value.Value.the-variants as Value
 use Rattle.fields.proofs.value.Value as value
@@ -33,16 +34,23 @@ told Value.BadText = record { bad-text = refl; misshapen = refl; seconds = refl 
 told Value.Misshapen = record { bad-text = refl; misshapen = refl; seconds = refl }
 told Value.Opaque = record { bad-text = refl; misshapen = refl; seconds = refl }
 
--- a tag out of a list that lacks k is not k
-other : (ks : List ℕ) (k n : ℕ) → (OneOf ks k → ⊥) → OneOf ks n → eqb n k ≡ false
-other ks k n t o = ne-eqb n k (λ e. t (subst (OneOf ks) e o))
+-- the tags but k
+abbrev without : ℕ → List ℕ → List ℕ
+without k [] = []
+without k (a ∷ l) = cond (eqb a k) (without k l) (a ∷ without k l)
+
+abbrev rest : ℕ → List ℕ
+rest k = without k (to 0 9)
 
 module _ (v : Value) where
-  pub not-bad-text : OneOf (0 ∷ 1 ∷ 2 ∷ 3 ∷ 4 ∷ 5 ∷ 6 ∷ 8 ∷ 9 ∷ []) (tag v) → false ≡ isBadText v
-  not-bad-text o = sym (told v .bad-text ∙ other (0 ∷ 1 ∷ 2 ∷ 3 ∷ 4 ∷ 5 ∷ 6 ∷ 8 ∷ 9 ∷ []) 7 (tag v) (miss (0 ∷ 1 ∷ 2 ∷ 3 ∷ 4 ∷ 5 ∷ 6 ∷ 8 ∷ 9 ∷ []) 7 tt) o)
+  other : (k : ℕ) → (OneOf (rest k) k → ⊥) → OneOf (rest k) (tag v) → eqb (tag v) k ≡ false
+  other k n o = ne-eqb (tag v) k (λ e. n (subst (OneOf (rest k)) e o))
 
-  pub not-misshapen : OneOf (0 ∷ 1 ∷ 2 ∷ 3 ∷ 4 ∷ 5 ∷ 6 ∷ 7 ∷ 9 ∷ []) (tag v) → false ≡ isMisshapen v
-  not-misshapen o = sym (told v .misshapen ∙ other (0 ∷ 1 ∷ 2 ∷ 3 ∷ 4 ∷ 5 ∷ 6 ∷ 7 ∷ 9 ∷ []) 8 (tag v) (miss (0 ∷ 1 ∷ 2 ∷ 3 ∷ 4 ∷ 5 ∷ 6 ∷ 7 ∷ 9 ∷ []) 8 tt) o)
+  pub not-bad-text : OneOf (rest 7) (tag v) → false ≡ isBadText v
+  not-bad-text o = sym (told v .bad-text ∙ other 7 (miss (rest 7) 7 tt) o)
 
-  pub not-time : OneOf (0 ∷ 1 ∷ 2 ∷ 4 ∷ 5 ∷ 6 ∷ 7 ∷ 8 ∷ 9 ∷ []) (tag v) → 0 ≡ secondsIn v
-  not-time o = sym (told v .seconds ∙ rw (other (0 ∷ 1 ∷ 2 ∷ 4 ∷ 5 ∷ 6 ∷ 7 ∷ 8 ∷ 9 ∷ []) 3 (tag v) (miss (0 ∷ 1 ∷ 2 ∷ 4 ∷ 5 ∷ 6 ∷ 7 ∷ 8 ∷ 9 ∷ []) 3 tt) o))
+  pub not-misshapen : OneOf (rest 8) (tag v) → false ≡ isMisshapen v
+  not-misshapen o = sym (told v .misshapen ∙ other 8 (miss (rest 8) 8 tt) o)
+
+  pub not-time : OneOf (rest 3) (tag v) → 0 ≡ secondsIn v
+  not-time o = sym (told v .seconds ∙ rw (other 3 (miss (rest 3) 3 tt) o))

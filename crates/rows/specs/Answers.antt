@@ -6,7 +6,6 @@ use lib.Dec.{ltb}
 use Rattle.words.specs.Slices.{zeros}
 use Rattle.rows.specs.declared.Imported.{Imported}
 use Rattle.rows.specs.declared.Imported.the-variants as imported
-use Rattle.rows.specs.declared.Values.{Values}
 use Rattle.rows.specs.declared.Shown.{Shown}
 use Rattle.rows.specs.declared.Shown.the-variants as shown
 

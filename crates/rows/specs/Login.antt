@@ -26,6 +26,10 @@ rowOf l =
     ++ (bytesLow 4 (l .days)
     ++ zeros 4))))
 
+-- the same of values one by one
+abbrev pub rowFrom : List ℕ → List ℕ → List ℕ → List ℕ → ℕ → List ℕ
+rowFrom uuid title user group days = rowOf (record { uuid = uuid; title = title; user = user; group = group; days = days })
+
 -- the rows, one after the other
 unfoldable pub tableOf : List Login → List ℕ
 tableOf [] = []

@@ -6,7 +6,7 @@ pub mod fit;
 
 ghost use mathlib.Core.Path.{_≡_};
 ghost use lib.ListN.{length};
-ghost use Rattle.rows.specs.Login.{rowOf};
+ghost use Rattle.rows.specs.Login.{rowFrom};
 ghost use Rattle.rows.specs.Import.{loginIn, valuesOf, fineRow, Imports, Shows};
 
 pub enum Imported {
@@ -33,7 +33,7 @@ pub enum Shown {
 
 // A row of these values, each text in its room.
 pub fn lay(uuid: &[u8], title: &[u8], user: &[u8], group: &[u8], days: u32) -> [u8; 256]
-    ensures { λ r. ⌜ r ≡ rowOf (record { uuid = now (uuid .entry); title = now (title .entry); user = now (user .entry); group = now (group .entry); days = days }) ⌝ }
+    ensures { λ r. ⌜ r ≡ rowFrom (now (uuid .entry)) (now (title .entry)) (now (user .entry)) (now (group .entry)) days ⌝ }
 {
     let mut row = [0u8; 256];
     words::slices::copy(&mut row[0..16], uuid);
