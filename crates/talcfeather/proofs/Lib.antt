@@ -6,3 +6,4 @@ pub mod AsRead
 pub mod Demands
 pub mod FindSaid
 pub mod LateEdits
+pub mod LoginTable

@@ -11,6 +11,7 @@ use Rattle.talcfeather.specs.Append.{TalcAppend}
 use Rattle.talcfeather.specs.Judge.{TalcJudge}
 use Rattle.talcfeather.specs.Find.{TalcFind}
 use Rattle.talcfeather.specs.Trace.{TalcReplay, TalcStanding}
+use Rattle.talcfeather.specs.Table.{TalcExport, TalcImport, TalcRow}
 
 module _ {n n′ : ℕ} {a a′ : List ℕ} where
   pub walk-one : (body : List ℕ) (place : ℕ) (r : Bool) → TalcWalk body place r n a → TalcWalk body place r n′ a′ → (n ≡ n′) × (a ≡ a′)
@@ -43,3 +44,13 @@ module _ {n n′ : ℕ} {a a′ : List ℕ} where
 
   pub standing-one : (state uuid : List ℕ) → TalcStanding state uuid n a → TalcStanding state uuid n′ a′ → (n ≡ n′) × (a ≡ a′)
   standing-one state uuid x y = (x .is-number ∙ sym (y .is-number), x .is-answer ∙ sym (y .is-answer))
+
+  pub export-one : (body : List ℕ) (t : ℕ) (before z z′ : List ℕ) → TalcExport body t before n z a → TalcExport body t before n′ z′ a′ → (n ≡ n′) × (z ≡ z′) × (a ≡ a′)
+  export-one body t before z z′ x y =
+      (x .is-number ∙ sym (y .is-number), x .is-output ∙ sym (y .is-output), x .is-answer ∙ sym (y .is-answer))
+
+  pub import-one : (table : List ℕ) → TalcImport table n a → TalcImport table n′ a′ → (n ≡ n′) × (a ≡ a′)
+  import-one table x y = (x .is-number ∙ sym (y .is-number), x .is-answer ∙ sym (y .is-answer))
+
+  pub row-one : (table : List ℕ) (row : ℕ) → TalcRow table row n a → TalcRow table row n′ a′ → (n ≡ n′) × (a ≡ a′)
+  row-one table row x y = (x .is-number ∙ sym (y .is-number), x .is-answer ∙ sym (y .is-answer))

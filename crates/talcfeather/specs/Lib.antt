@@ -1,5 +1,6 @@
 pub mod Numbers
 pub mod Read
+pub mod Table
 pub mod Write
 pub mod Walk
 pub mod Append

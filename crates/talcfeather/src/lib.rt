@@ -5,6 +5,7 @@ mod judge;
 mod numbers;
 mod read;
 mod refusal;
+mod table;
 mod trace;
 mod walk;
 mod write;
