@@ -95,6 +95,7 @@ module _ {s b z a : List ℕ} {t n : ℕ} (c : TalcExport s t b n z a) (h : n �
   pub shown-back : {k : ℕ} {d : List ℕ} (before : List (List Stored)) (u : List Stored) (others : List (List Stored))
       → rows-written .1 .well-formed .records ≡ before ++ (u ∷ others) → TalcRow table (length before) k d
       → (k ≡ 0) × (d ≡ inBytes (rowNumbers (shown.Of (valuesOf (loginOf t u)))))
+  unfolding rows-written
   shown-back before u others e i =
       let f = logins.shown-back as-rows before u others e (as-row i) in
       (i .is-number ∙ ap rowNumber f, i .is-answer ∙ ap (λ (r : Shown). inBytes (rowNumbers r)) f)
