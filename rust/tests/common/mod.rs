@@ -6,4 +6,5 @@ pub mod bodies;
 pub mod calls;
 pub mod guarded;
 pub mod process;
+pub mod tables;
 pub mod traces;
