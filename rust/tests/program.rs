@@ -250,6 +250,23 @@ fn wrong_arguments() {
         vec!["check", "f", "--state", "s"],
         vec!["fields", "f", "--state=s"],
         vec!["list", "f", "--state"],
+        vec!["table", "f"],
+        vec!["table", "f", "g", "h"],
+        vec!["table", "f", "g", "--state", "s"],
+        vec!["table", "f", "g", "--now"],
+        vec!["table", "f", "g", "--now", "today"],
+        vec!["table", "f", "g", "--now=-1"],
+        vec!["table", "f", "g", "--now=4294967296"],
+        vec!["table", "f", "g", "--now="],
+        vec!["list", "f", "--now", "5"],
+        vec!["replay", "s", "t", "--now", "5"],
+        vec!["rows"],
+        vec!["rows", "t", "u"],
+        vec!["rows", "t", "--now", "5"],
+        vec!["rows", "t", "--passphrase-stdin"],
+        vec!["rows", "t", "--passphrase-file", "g"],
+        vec!["rows", "t", "--ceiling", "5000"],
+        vec!["rows", "t", "--state", "s"],
         vec!["check", "f", "--loud"],
         vec!["check", "f", "--ceiling"],
         vec!["check", "f", "--ceiling", "many"],
@@ -308,6 +325,8 @@ fn help_and_version() {
         assert!(
             ended.out.contains("talc replay STATE TRACE..") && ended.out.contains("--state STATE")
         );
+        assert!(ended.out.contains("talc table FILE OUT") && ended.out.contains("--now SECONDS"));
+        assert!(ended.out.contains("talc rows TABLE"));
         assert!(ended.out.lines().all(|line| line.len() <= 80), "fits a terminal");
     }
     assert!(talc(&["--version"], b"").out.starts_with("talc "));
