@@ -139,11 +139,14 @@ fn one_uuid_too_many() {
     assert_eq!((accepted.0.len(), accepted.uuids().len()), (4096, 4096));
 }
 
+/// Type and data of a field.
+type Part<'a> = (u8, &'a [u8]);
+
 /// A body of one login: Version, END, and these fields with UUID and password.
-fn one_login(fields: &[(u8, &[u8])]) -> Vec<u8> {
-    let before: [(u8, &[u8]); 3] = [(0x00, &[0x0e, 0x03]), (0xff, &[]), (0x01, &[7; 16])];
-    let after: [(u8, &[u8]); 2] = [(0x06, b"x"), (0xff, &[])];
-    let stored = |(kind, data): &(u8, &[u8])| {
+fn one_login(fields: &[Part]) -> Vec<u8> {
+    let before: [Part; 3] = [(0x00, &[0x0e, 0x03]), (0xff, &[]), (0x01, &[7; 16])];
+    let after: [Part; 2] = [(0x06, b"x"), (0xff, &[])];
+    let stored = |(kind, data): &Part| {
         peer::fields::stored(*kind, data, &vec![0; peer::fields::fill_needed(data.len())])
     };
     [&before, fields, &after].concat().iter().flat_map(stored).collect()
@@ -162,7 +165,7 @@ fn days_to_expiry() {
 
 #[test]
 fn a_table_there_and_back() {
-    let fields: [(u8, &[u8]); 4] =
+    let fields: [Part; 4] =
         [(0x03, b"Lathe"), (0x0a, &[0, 0, 0, 1]), (0x02, b"Floor"), (0x04, b"worker")];
     let body = one_login(&fields);
     let table = export(&body, (1 << 24) + 1, 256).unwrap();
@@ -183,7 +186,7 @@ fn a_table_there_and_back() {
 #[test]
 fn logins_at_fault() {
     let long = [b'n'; 81];
-    let cases: [(&[(u8, &[u8])], u8); 6] = [
+    let cases: [(&[Part], u8); 6] = [
         (&[(0x03, &long)], 0x03),
         (&[(0x02, &long[..73]), (0x03, b"t")], 0x02),
         (&[(0x02, b"a\0b"), (0x04, b"\xff"), (0x03, b"t")], 0x04),
@@ -194,8 +197,7 @@ fn logins_at_fault() {
     for (fields, kind) in cases {
         assert_eq!(export(&one_login(fields), 0, 0), Err(Refused::Login(0, kind)));
     }
-    let fits: [(u8, &[u8]); 4] =
-        [(0x03, &long[..80]), (0x02, &long[..72]), (0x02, &long), (0x04, b"")];
+    let fits: [Part; 4] = [(0x03, &long[..80]), (0x02, &long[..72]), (0x02, &long), (0x04, b"")];
     assert!(export(&one_login(&fits), 0, 256).is_ok());
 }
 
