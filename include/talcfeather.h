@@ -31,7 +31,7 @@
  * ------------------------------------------------------------------------
  * Words
  *
- * body      the decrypted content of a safe: a row of fields
+ * body      the decrypted content of a safe: fields, one after the other
  * field     length (4 bytes, lowest first), type (1), data, fill to the next
  *           multiple of 16. It takes the smallest number of 16-byte blocks
  *           that holds 5 + length bytes.
@@ -43,7 +43,7 @@
  * ceiling   the largest ITER for which the caller is willing to wait
  * marker    the 16 bytes PWS3-EOFPWS3-EOF between body and HMAC
  * workspace memory that receives the body
- * trace     what a tablet recorded: a row of records of 32 bytes, no header.
+ * trace     what a tablet recorded: records of 32 bytes, no header.
  *           A record holds UUID (16), time (4, lowest byte first), kind (1: 1
  *           edit, 2 cancel, 3 reissue) and pad (11 zeros). It has nothing to
  *           do with the records of a body.
@@ -56,9 +56,9 @@
  *           (4, signed, two's complement, lowest byte first), pad (4 zeros).
  *           A text has zeros after it, to the end of its room; one that fills
  *           its room has no zero after it.
- * days      from the now that was given to the expiry, rounded down: 0 for the
- *           first 86,400 seconds, -1 for the last before now. 2,147,483,647
- *           (TALC_NO_EXPIRY) where there is no expiry.
+ * days      whole days from the given now to the expiry, rounded down: 0 for
+ *           an expiry in the 86,400 seconds from now on, -1 in those before.
+ *           2,147,483,647 (TALC_NO_EXPIRY) where there is no expiry.
  *
  * A body is well formed when all of these hold: it divides exactly into
  * fields; every END has length 0; the first field is Version (00), length 2,

@@ -136,7 +136,8 @@ fn unfit() -> Vec<(Part, &'static str)> {
         ),
         (part(TITLE, b"Lat\x1b\xff"), "\"Lat\\u{1b}\u{fffd}\": its title is damaged text: type it"),
         (part(USER, b"\xef\xbb\xbfworker"), "\"Lathe\": its user name is damaged text: type it"),
-        (part(GROUP, b"Floor\0"), "\"Lathe\": its group is damaged text: type it again"),
+        (part(USER, b"worker\0"), "\"Lathe\": its user name has a zero byte in it: type it again"),
+        (part(GROUP, b"Floor \xc3"), "\"Lathe\": its group is damaged text: type it again"),
         (
             part(GROUP, b"Fl\0or"),
             "\"Lathe\": its group has a zero byte in it: type it again without",

@@ -81,10 +81,10 @@ fn unfit_field(field: &Field, data: &[u8]) -> String {
     let Some((_, name, _, room)) = TEXTS.iter().find(|text| text.0 == field.kind) else {
         return format!("its expiry has {length} bytes, not 4: set the expiry again");
     };
-    if field.value == Value::BadText {
-        format!("its {name} is damaged text: type it again")
-    } else if data.contains(&0) {
+    if data.contains(&0) {
         format!("its {name} has a zero byte in it: type it again without")
+    } else if field.value == Value::BadText {
+        format!("its {name} is damaged text: type it again")
     } else {
         format!("its {name} has {length} bytes, and the table has room for {room}: shorten it")
     }
