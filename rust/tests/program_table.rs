@@ -256,6 +256,34 @@ fn safes_that_do_not_open() {
     assert_eq!(folder.names(), ["a.psafe3"]);
 }
 
+#[test]
+fn wrong_arguments() {
+    let cases = [
+        "table f",
+        "table f g h",
+        "table f g --state s",
+        "table f g --now",
+        "table f g --now today",
+        "table f g --now=-1",
+        "table f g --now=4294967296",
+        "table f g --now=",
+        "list f --now 5",
+        "replay s t --now 5",
+        "rows",
+        "rows t u",
+        "rows t --now 5",
+        "rows t --passphrase-stdin",
+        "rows t --passphrase-file g",
+        "rows t --ceiling 5000",
+        "rows t --state s",
+    ];
+    for case in cases {
+        let ended = talc(&case.split(' ').collect::<Vec<_>>(), b"");
+        assert_eq!((ended.status, ended.out.as_str()), (64, ""), "{case}");
+        assert!(ended.err.contains("--help"), "{}", ended.err);
+    }
+}
+
 /// A table that can be written only in part is not written at all.
 #[test]
 fn written_in_part() {
