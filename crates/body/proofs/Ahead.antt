@@ -1,7 +1,7 @@
 -- The laws for a loop over the records of a well-formed body: it starts behind the header, a turn reads the first of the records that are ahead and goes on to the next place, and
 -- at the body's end none is ahead. So it reads each record once, in order. By what is left at a place (Sectioned), section by section.
 use Prim.Native.Nat.{ℕ, _+_, _<_, _≤_}
-use mathlib.Core.Path.{_≡_, refl, sym, ap, subst, _∙_}
+use mathlib.Core.Path.{_≡_, refl, ap, subst, _∙_}
 use mathlib.Core.Bool.{true}
 use mathlib.Core.List.{List, [], _∷_}
 use native.Mathlib.Nat.{zero-add}

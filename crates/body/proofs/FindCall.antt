@@ -131,7 +131,7 @@ none-has uuid y (r ∷ rs) h = (has-not uuid y (firstData 0x01 r) (h .0), none-h
 
 -- ---- the record
 -- its data are bytes
-first-bytes : (k : ℕ) (u : List Stored) → Each Whole u → Bytes (firstData k u)
+pub first-bytes : (k : ℕ) (u : List Stored) → Each Whole u → Bytes (firstData k u)
 unfolding firstData
 first-bytes k [] w = none
 first-bytes k (f ∷ u) w = by (eqb (f .kind) k) (first-bytes k u (w .1))
@@ -150,7 +150,10 @@ runs-whole (f ∷ fs) w = by (isEnd f) (runs fs) (runs-whole fs (w .1))
     by false [] h = ((w .0, tt), tt)
     by false (u ∷ us) h = ((w .0, h .0), h .1)
 
--- what holds of each of a list holds of one in its middle
+pub records-whole : (s : List ℕ) (w : WellFormed s) → Each (λ u. Each Whole u) (w .records)
+records-whole s w =
+    let whole : Each (λ u. Each Whole u) (w .header ∷ (w .records ++ ([] ∷ []))) = subst (Each (λ u. Each Whole u)) (w .sections) (runs-whole (w .fields) (w .divides .whole)) in
+    each-front (λ u. Each Whole u) (w .records) ([] ∷ []) (whole .1)
 
 -- the walk behind the sections before it
 left-behind : (s : List ℕ) (p : ℕ) (before : List (List Stored)) (u : List Stored) (us : List (List Stored)) → Left s p (before ++ (u ∷ us)) → Left s (p + placeBehind before) (u ∷ us)
@@ -204,9 +207,8 @@ module _ (s uuid : List ℕ) (y : Sized 16 uuid) (x : Bytes s) where
         let b = numberLow (take 8 (drop 8 uuid)) in
         let t = first-at a b 0 (length (joined (w .header)) + 16) (w .records) n p (sym searched ∙ e) in
         let place : p ≡ placeBehind (w .header ∷ t .before) = t .place in
-        let whole : Each (λ u. Each Whole u) (w .header ∷ (w .records ++ ([] ∷ []))) = subst (Each (λ u. Each Whole u)) (w .sections) (runs-whole (w .fields) (w .divides .whole)) in
         let u = t .found in
-        let bytes = first-bytes 0x01 u (each-middle (λ u. Each Whole u) (t .before) u (t .others) (subst (Each (λ u. Each Whole u)) (t .parts) (each-front (λ u. Each Whole u) (w .records) ([] ∷ []) (whole .1)))) in
+        let bytes = first-bytes 0x01 u (each-middle (λ u. Each Whole u) (t .before) u (t .others) (subst (Each (λ u. Each Whole u)) (t .parts) (records-whole s w))) in
         let good : GoodRecord u = each-middle GoodRecord (t .before) u (t .others) (subst (Each GoodRecord) (t .parts) (w .mandatory)) in
         let left : Left s (0 + placeBehind (w .header ∷ t .before)) (u ∷ t .others) = left-behind s 0 (w .header ∷ t .before) u (t .others) (subst (λ (rs : List (List Stored)). Left s 0 (w .header ∷ rs)) (t .parts) sections) in
         let f = first-field s p u (t .others) (subst (λ (q : ℕ). Left s q (u ∷ t .others)) (zero-add _ ∙ sym place) left) (good .uuid .once) in

@@ -17,7 +17,7 @@ use Rattle.fields.specs.declared.value.Value.{Value}
 use Rattle.fields.specs.declared.value.Value.the-variants as Value
 use Rattle.fields.proofs.value.Value as value
 use Rattle.body.specs.Division.{joined}
-use Rattle.body.specs.Sections.{runs, firstData}
+use Rattle.body.specs.Sections.{runs}
 use Rattle.body.specs.Decision.{fieldsOf, wellFormed, recordsIn}
 use Rattle.body.specs.RecordAt.{recordAt, contentAt}
 use Rattle.body.specs.Find.{isUuid, has, firstWith, soughtIn}

@@ -1,6 +1,6 @@
 // What the data of a field stands for.
 ghost use mathlib.Core.Path.{_≡_};
-ghost use Prim.Native.Nat.{_+_, _*_, _^_, _<_};
+ghost use Prim.Native.Nat.{_<_};
 ghost use Rattle.fields.specs.Value.{headerShape, recordShape, shapedOf, valueOf};
 
 // How the data of a field of some type is to be read: Word and Half are numbers of 4 and 2 bytes.

@@ -1,6 +1,6 @@
--- What the tests on the way to an answer of an export say.
+-- What the tests on the way to an answer of an export say, by cases of what they come to.
 use Prim.Native.Nat.{ℕ, _*_, _≤_}
-use mathlib.Core.Path.{_≡_, refl, sym, ap, _∙_}
+use mathlib.Core.Path.{_≡_, refl, ap}
 use mathlib.Core.Bool.{Bool, true, false, cond}
 use mathlib.Core.Logic.{⊎-elim}
 use mathlib.Core.List.{List, [], _∷_}
@@ -10,7 +10,7 @@ use denote.Enum.Declared.{tagOf}
 use lib.Dec.{ltb}
 use borrow.Author.Tests.{ltb-false}
 use Rattle.body.specs.Decision.{wellFormed}
-use Rattle.logins.specs.Export.{recordsAre, checkedFrom, roomFor, exportOf, outputAfter}
+use Rattle.logins.specs.Export.{bodyRecords, checkedFrom, roomFor, exportOf, outputAfter}
 use Rattle.logins.specs.declared.Checked.{Checked}
 use Rattle.logins.specs.declared.Checked.the-variants.{Fine, Fault}
 use Rattle.logins.specs.declared.Exported.{Exported}
@@ -33,7 +33,7 @@ has-room m n (Fine k) h = by (ltb m (256 * k)) refl h
     by false e h = let q : k ≡ n = cc in (ap Fine q, omega (arith, ltb-false m (256 * k) e))
 has-room m n (Fault k j) h = absurd (let z : _≡_ {A = ℕ} 0 1 = cc in omega arith)
 
-pub export-formed : (s : List ℕ) (m : ℕ) → wellFormed s ≡ true → exportOf s m ≡ roomFor m (checkedFrom 0 (recordsAre s))
+pub export-formed : (s : List ℕ) (m : ℕ) → wellFormed s ≡ true → exportOf s m ≡ roomFor m (checkedFrom 0 (bodyRecords s))
 unfolding exportOf
 export-formed s m f = rw f
 

@@ -1,6 +1,6 @@
 -- The filling loop: the rows so far and those of the records ahead are the table; by the kit for loops over records (body, Ahead.antt), and a part put behind what is written.
 use Prim.Native.Nat.{ℕ, _+_, _*_, _<_, _≤_}
-use mathlib.Core.Path.{_≡_, refl, sym, ap, subst, _∙_}
+use mathlib.Core.Path.{_≡_, refl, sym, ap, _∙_}
 use mathlib.Core.Bool.{Bool, true, false, cond}
 use mathlib.Core.List.{List, [], _∷_, _++_, append-assoc, append-nil}
 use native.Mathlib.Omega.{arith}
@@ -19,8 +19,7 @@ use Rattle.body.proofs.Ahead.{Ahead, Met, ahead-start, ahead-turn, ahead-stop}
 use Rattle.rows.specs.Login.{rowOf, tableOf}
 use Rattle.rows.proofs.Back.{row-long}
 use Rattle.logins.specs.Record.{loginOf, faultOf}
-use Rattle.logins.specs.Export.{recordsAre, checkedFrom, rowsOf, loginAt}
-use Rattle.logins.specs.declared.Checked.{Checked}
+use Rattle.logins.specs.Export.{bodyRecords, checkedFrom, tableFrom, loginAt}
 use Rattle.logins.specs.declared.Checked.the-variants.{Fine, Fault}
 
 -- ---- records without fault, and their number
@@ -49,20 +48,20 @@ pub record Fills (s : List ℕ) (t : ℕ) (b : List ℕ) (m p to : ℕ) (out : L
   w : List ℕ
   long : length w ≡ to
   out-is : out ≡ w ++ drop to b
-  rest : w ++ rowsOf t records ≡ rowsOf t (recordsAre s)
+  rest : w ++ tableFrom t records ≡ tableFrom t (bodyRecords s)
 
-pub fills-start : (s : List ℕ) (t : ℕ) (b : List ℕ) (m : ℕ) (h : Record) → wellFormed s ≡ true → checkedFrom 0 (recordsAre s) ≡ Fine m → h ≡ recordAt s 0
+pub fills-start : (s : List ℕ) (t : ℕ) (b : List ℕ) (m : ℕ) (h : Record) → wellFormed s ≡ true → checkedFrom 0 (bodyRecords s) ≡ Fine m → h ≡ recordAt s 0
     → Fills s t b m (h .next) 0 b
 fills-start s t b m h w k e =
-    let n = fine-count 0 m (recordsAre s) k in
-    record { records = recordsAre s; ahead = ahead-start s h w e .0; left = omega arith; w = []; long = refl; out-is = refl; rest = refl }
+    let n = fine-count 0 m (bodyRecords s) k in
+    record { records = bodyRecords s; ahead = ahead-start s h w e .0; left = omega arith; w = []; long = refl; out-is = refl; rest = refl }
 
-rows-next : (t : ℕ) (u : List Stored) (us : List (List Stored)) → rowsOf t (u ∷ us) ≡ rowOf (loginOf t u) ++ rowsOf t us
-unfolding rowsOf tableOf
+rows-next : (t : ℕ) (u : List Stored) (us : List (List Stored)) → tableFrom t (u ∷ us) ≡ rowOf (loginOf t u) ++ tableFrom t us
+unfolding tableFrom tableOf
 rows-next t u us = refl
 
-rows-none : (t : ℕ) → rowsOf t [] ≡ []
-unfolding rowsOf tableOf
+rows-none : (t : ℕ) → tableFrom t [] ≡ []
+unfolding tableFrom tableOf
 rows-none t = refl
 
 module _ (s : List ℕ) (t : ℕ) (b : List ℕ) (m p to : ℕ) (out : List ℕ) (f : Fills s t b m p to out) (room : 256 * m ≤ length b) where
@@ -70,12 +69,12 @@ module _ (s : List ℕ) (t : ℕ) (b : List ℕ) (m p to : ℕ) (out : List ℕ)
   fills-long =
       ap length (f .out-is) ∙ length-append (f .w) (drop to b) ∙ rw (f .long, length-drop to b) (omega (arith, f .left, room))
 
-  pub fills-stop : length s ≤ p → out ≡ rowsOf t (recordsAre s) ++ drop (256 * m) b
+  pub fills-stop : length s ≤ p → out ≡ tableFrom t (bodyRecords s) ++ drop (256 * m) b
   fills-stop h =
       let z = ahead-stop s p (f .records) (f .ahead) h in
       let q : to ≡ 256 * m = omega (arith, f .left, ap length z) in
-      let v : f .w ≡ rowsOf t (recordsAre s) = sym (append-nil (f .w)) ∙ ap (_++_ (f .w)) (sym (rows-none t)) ∙ ap (λ (x : List (List Stored)). f .w ++ rowsOf t x) (sym z) ∙ f .rest in
-      f .out-is ∙ ap (λ (x : List ℕ). x ++ drop to b) v ∙ ap (λ (x : ℕ). rowsOf t (recordsAre s) ++ drop x b) q
+      let v : f .w ≡ tableFrom t (bodyRecords s) = sym (append-nil (f .w)) ∙ ap (_++_ (f .w)) (sym (rows-none t)) ∙ ap (λ (x : List (List Stored)). f .w ++ tableFrom t x) (sym z) ∙ f .rest in
+      f .out-is ∙ ap (λ (x : List ℕ). x ++ drop to b) v ∙ ap (λ (x : ℕ). tableFrom t (bodyRecords s) ++ drop x b) q
 
   module _ (r : Record) (h : p < length s) (e : r ≡ recordAt s p) where
     met : Met s p (f .records) r
@@ -105,8 +104,8 @@ module _ (s : List ℕ) (t : ℕ) (b : List ℕ) (m p to : ℕ) (out : List ℕ)
           w = f .w ++ x;
           long = length-append (f .w) x ∙ rw (f .long, l);
           out-is = rw (f .out-is, j) (put-next (f .w) x (drop to b) y to 256 (f .long) z ∙ ap (λ (v : List ℕ). (f .w ++ x) ++ v) (drop-drop 256 to b));
-          rest = append-assoc (f .w) x (rowsOf t (met .us))
-              ∙ ap (λ (v : List ℕ). f .w ++ (v ++ rowsOf t (met .us))) (i ∙ ap rowOf login-is)
+          rest = append-assoc (f .w) x (tableFrom t (met .us))
+              ∙ ap (λ (v : List ℕ). f .w ++ (v ++ tableFrom t (met .us))) (i ∙ ap rowOf login-is)
               ∙ ap (_++_ (f .w)) (sym (rows-next t (met .u) (met .us)))
-              ∙ ap (λ (v : List (List Stored)). f .w ++ rowsOf t v) (sym (met .are)) ∙ f .rest;
+              ∙ ap (λ (v : List (List Stored)). f .w ++ tableFrom t v) (sym (met .are)) ∙ f .rest;
         }

@@ -1,4 +1,7 @@
 mod Checks
 mod Fills
 mod Answered
+mod Verdict
+mod Fitting
+mod Expiry
 pub mod Promises

@@ -9,7 +9,7 @@ use Rattle.rows.specs.Login.{Login}
 use Rattle.rows.specs.Days.{daysOf}
 use Rattle.rows.specs.Fit.{unfit, isMisshapen}
 
--- the data of title, user name, group and expiry at the time t, and a UUID
+-- the login of these data, with the days from the given now, t
 abbrev pub loginFrom : ℕ → List ℕ → List ℕ → List ℕ → List ℕ → List ℕ → Login
 loginFrom t uuid title user group expiry =
     record { uuid = uuid; title = title; user = user; group = group; days = daysOf (valueOf true 0x0a expiry) t }

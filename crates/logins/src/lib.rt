@@ -11,7 +11,7 @@ ghost use Prim.Native.Nat.{_*_, _≤_};
 ghost use lib.ListN.{length, drop};
 ghost use Rattle.body.specs.Decision.{wellFormed};
 ghost use Rattle.rows.specs.Login.{rowOf};
-ghost use Rattle.logins.specs.Export.{recordsAre, checkedFrom, rowsOf, roomFor, loginAt, faultAt, Exports};
+ghost use Rattle.logins.specs.Export.{bodyRecords, checkedFrom, tableFrom, roomFor, loginAt, faultAt, Exports};
 
 // How many rows were written, or why none was: the body is not well formed; the table can't hold a record, by its number, for a
 // field, by its type; the output is too short.
@@ -28,7 +28,7 @@ pub enum Checked {
     Fault(usize, u8),
 }
 
-// The type of a record's first field that the table can't hold, or 0.
+// The type of the first field, in the table's order, that it can't hold, or 0.
 fn fault(body: &[u8], x: Firsts) -> u8
     ensures { λ r. ⌜ r ≡ faultAt (now (body .entry)) x ⌝ }
 {
@@ -52,7 +52,7 @@ fn fault(body: &[u8], x: Firsts) -> u8
 }
 
 // The row of a record, at the given time.
-fn row(body: &[u8], x: Firsts, time: u32) -> [u8; 256]
+fn row_of(body: &[u8], x: Firsts, time: u32) -> [u8; 256]
     ensures { λ r. ⌜ r ≡ rowOf (loginAt time (now (body .entry)) x) ⌝ }
 {
     let uuid = x.uuid;
@@ -73,7 +73,7 @@ fn row(body: &[u8], x: Firsts, time: u32) -> [u8; 256]
 // Whether the table can hold every record. Nothing is written before this is known.
 fn check(body: &[u8]) -> Checked
     requires { ⌜ wellFormed (now body) ≡ true ⌝ }
-    ensures { λ r. ⌜ r ≡ checkedFrom 0 (recordsAre (now (body .entry))) ⌝ }
+    ensures { λ r. ⌜ r ≡ checkedFrom 0 (bodyRecords (now (body .entry))) ⌝ }
 {
     let header = records::record_at(body, 0);
     let mut at = header.next;
@@ -94,9 +94,9 @@ fn check(body: &[u8]) -> Checked
 // The row of each record, one after the other.
 fn fill(body: &[u8], time: u32, output: &mut [u8], count: usize)
     requires formed { ⌜ wellFormed (now body) ≡ true ⌝ }
-    requires fine { ⌜ checkedFrom 0 (recordsAre (now body)) ≡ Checked.Fine count ⌝ }
+    requires fine { ⌜ checkedFrom 0 (bodyRecords (now body)) ≡ Checked.Fine count ⌝ }
     requires room { ⌜ 256 * count ≤ length (now output) ⌝ }
-    ensures { λ _. ⌜ now (output .exit) ≡ rowsOf time (recordsAre (now (body .entry))) ++ drop (256 * count) (now (output .entry)) ⌝ }
+    ensures { λ _. ⌜ now (output .exit) ≡ tableFrom time (bodyRecords (now (body .entry))) ++ drop (256 * count) (now (output .entry)) ⌝ }
 {
     let header = records::record_at(body, 0);
     let mut at = header.next;
@@ -104,9 +104,9 @@ fn fill(body: &[u8], time: u32, output: &mut [u8], count: usize)
     while at < body.len() {
         let r = records::record_at(body, at);
         let firsts = r.firsts;
-        let line = row(body, firsts, time);
+        let row = row_of(body, firsts, time);
         let end = to + 256;
-        words::slices::copy(&mut output[to..end], &line);
+        words::slices::copy(&mut output[to..end], &row);
         to = end;
         at = r.next;
     }

@@ -3,7 +3,7 @@ use crate::Latest;
 use crate::Login;
 use crate::Stood;
 ghost use mathlib.Core.Path.{_≡_};
-ghost use Prim.Native.Nat.{_+_, _*_, _≤_, _<_, _^_, max};
+ghost use Prim.Native.Nat.{_+_, _*_, _≤_, _<_, max};
 ghost use lib.ListN.{length, take, drop};
 ghost use Rattle.words.specs.Numbers.{numberLow, bytesLow};
 ghost use Rattle.words.specs.Slices.{zeros, same};

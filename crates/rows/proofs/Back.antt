@@ -22,7 +22,7 @@ use Rattle.rows.proofs.Padding.{padded-long, padded-full}
 use Rattle.rows.proofs.Texts.{text-back, text-fine, fine-text, fine-column}
 
 -- the columns of a row are those of a login
-record Holds (l : Login) (r : List ℕ) : Type 0 where
+record ColumnsAre (l : Login) (r : List ℕ) : Type 0 where
   uuid : take 16 r ≡ padded 16 (l .uuid)
   title : column 16 80 r ≡ padded 80 (l .title)
   user : column 96 80 r ≡ padded 80 (l .user)
@@ -34,7 +34,7 @@ record Holds (l : Login) (r : List ℕ) : Type 0 where
 first : (p n : ℕ) (r b c : List ℕ) → drop p r ≡ b ++ c → length b ≡ n → (column p n r ≡ b) × (drop (p + n) r ≡ c)
 first p n r b c e h = (rw e (take-at b c n h), sym (drop-drop n p r) ∙ rw e (drop-at b c n h))
 
-row-holds : (l : Login) → Holds l (rowOf l)
+row-holds : (l : Login) → ColumnsAre l (rowOf l)
 unfolding rowOf
 row-holds l =
     let a = first 0 16 (rowOf l) (padded 16 (l .uuid)) _ refl (padded-long 16 (l .uuid)) in
@@ -47,7 +47,7 @@ row-holds l =
 peel : (p n : ℕ) (r : List ℕ) → drop p r ≡ column p n r ++ drop (p + n) r
 peel p n r = sym (take-append-drop n (drop p r)) ∙ ap (λ (x : List ℕ). column p n r ++ x) (drop-drop n p r)
 
-holds-row : (l : Login) (r : List ℕ) → Holds l r → rowOf l ≡ r
+holds-row : (l : Login) (r : List ℕ) → ColumnsAre l r → rowOf l ≡ r
 unfolding rowOf
 holds-row l r h =
     sym (peel 0 16 r ∙ rw (h .uuid, peel 16 80 r, h .title, peel 96 80 r, h .user, peel 176 72 r, h .group, peel 248 4 r, h .days, h .pad))
@@ -58,7 +58,7 @@ row-long l = simp (length-append, padded-long, bytes-sized 4 (l .days) .long)
 
 -- ==== What fits is fine, and comes back.
 module _ (l : Login) (f : Fits l) where
-  held : Holds l (rowOf l)
+  held : ColumnsAre l (rowOf l)
   held = row-holds l
 
   pub fits-fine : fineRow (rowOf l) ≡ true

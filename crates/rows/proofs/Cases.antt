@@ -12,7 +12,7 @@ use Rattle.fields.specs.Value.{recordShape, valueOf}
 use Rattle.rows.specs.Login.{Login, padded, rowOf}
 use Rattle.rows.specs.Days.{daysBetween, daysOf}
 use Rattle.rows.specs.Fit.{unfit}
-use Rattle.rows.specs.Import.{beforeZero, fineColumn, fineRow, loginIn, importFrom, importOf, showOf}
+use Rattle.rows.specs.Import.{beforeZero, fineColumn, fineRow, loginIn, importFrom, importOf, valuesOf, showOf}
 use Rattle.rows.specs.declared.Imported.the-variants as imported
 use Rattle.rows.specs.declared.Shown.the-variants as shown
 
@@ -114,6 +114,7 @@ unfolding importOf importFrom fineRow fineColumn unfit beforeZero valueOf record
 tables = refl
 
 -- a row is shown whatever the others are
-shows : map (showOf (set row 255 1 ++ (row ++ (0 ∷ [])))) (0 ∷ 2 ∷ 3 ∷ []) ≡ shown.Refused ∷ shown.Refused ∷ shown.Nowhere ∷ []
-unfolding showOf fineRow fineColumn unfit beforeZero valueOf recordShape endsWhole same
+shows : map (showOf (set row 255 1 ++ (row ++ (0 ∷ [])))) (0 ∷ 1 ∷ 2 ∷ 3 ∷ [])
+    ≡ shown.Refused ∷ shown.Of (valuesOf login) ∷ shown.Refused ∷ shown.Nowhere ∷ []
+unfolding showOf loginIn numberLow fineRow fineColumn unfit beforeZero valueOf recordShape endsWhole same
 shows = refl

@@ -1,7 +1,7 @@
 -- What document 02's Q-6 says of import, of calls of `import` and `row`, each taken by its contract alone: by the laws of a table and its rows (Tables).
-use Prim.Native.Nat.{ℕ, zero, suc, _+_, _*_, _<_, _≤_}
+use Prim.Native.Nat.{ℕ, zero, suc, _+_, _*_, _≤_}
 use mathlib.Core.Path.{_≡_, refl, sym, ap, subst, _∙_}
-use mathlib.Core.Bool.{Bool, true, false, cond, true≢false}
+use mathlib.Core.Bool.{Bool, true, false, cond}
 use mathlib.Core.Logic.{_↔_}
 use mathlib.Core.List.{List, [], _∷_, _++_, append-assoc}
 use native.Mathlib.Nat.{zero-add}
@@ -15,14 +15,17 @@ use Rattle.words.specs.Numbers.{Bytes}
 use Rattle.rows.specs.Login.{Login, rowOf, tableOf}
 use Rattle.rows.specs.Fit.{Fits}
 use Rattle.rows.specs.Import.{rowAt, countOf, column, beforeZero, textIn, fineRow, loginIn, importFrom, importOf, valuesOf, showOf, Imports, Shows}
-use Rattle.rows.specs.Says.{Holds, FirstFault, ImportSays, RowIs, RowSays}
+use Rattle.rows.specs.Says.{Holds, ImportSays, RowIs, RowSays}
 use Rattle.rows.specs.declared.Imported.{Imported}
 use Rattle.rows.specs.declared.Imported.the-variants as imported
-use Rattle.rows.specs.declared.Values.{Values}
 use Rattle.rows.specs.declared.Shown.{Shown}
 use Rattle.rows.specs.declared.Shown.the-variants as shown
 use Rattle.rows.proofs.Back.{fits-back, fits-fine, fine-fits, fine-back}
-use Rattle.rows.proofs.Tables.{table-long, row-of, imported-all, loginsFrom, logins-many, FineFrom, fine-whole, row-bytes, row-within, all-fine, none-cut, rows-fine, refused-at}
+use Rattle.rows.proofs.Tables.{table-long, row-of, imported-all, loginsFrom, logins-many, fine-whole, row-bytes, row-within, all-fine, none-cut, rows-fine, refused-at}
+
+-- Q6.d: a row is fine exactly where it is that of a login that fits
+pub fine-exactly : (r : List ℕ) → Bytes r → (fineRow r ≡ true) ↔ ((l : Login) × Fits l × (r ≡ rowOf l))
+fine-exactly r b = (λ g. (loginIn r, fine-fits r b g, sym (fine-back r b g)), λ h. ap fineRow (h .2) ∙ fits-fine (h .0) (h .1))
 
 -- a table of logins that fit is accepted, with all its rows
 held-accepted : (t : List ℕ) (ls : List Login) → Holds t ls → importOf t ≡ imported.Rows (length ls)
@@ -80,11 +83,10 @@ module _ (t : List ℕ) (n : ℕ) where
   unfolding showOf
   show-of b f e g = rw (e, g)
 
-  row-is : Bytes t → fineRow (rowAt t n) ≡ true → RowIs t n (valuesOf (loginIn (rowAt t n)))
+  row-is : Bytes t → fineRow (rowAt t n) ≡ true → RowIs t n (loginIn (rowAt t n)) (valuesOf (loginIn (rowAt t n)))
   unfolding loginIn
   row-is b g =
       record {
-        login = loginIn (rowAt t n);
         fits = fine-fits (rowAt t n) (row-bytes t b n) g;
         there = row-within t n (fine-whole (rowAt t n) g);
         row = sym (fine-back (rowAt t n) (row-bytes t b n) g);
@@ -101,23 +103,27 @@ module _ {t : List ℕ} {n : ℕ} {a : Shown} (c : Shows t n a) where
     where
       by : (b f : Bool) → leb (length t) (256 * n) ≡ b → fineRow (rowAt t n) ≡ f → RowSays t n a
       by true f e g = subst (RowSays t n) (sym (c .is-answer ∙ show-of t n true f e g)) (leb-true (length t) (256 * n) e)
-      by false true e g = subst (RowSays t n) (sym (c .is-answer ∙ show-of t n false true e g)) (row-is t n (c .bytes) g)
+      by false true e g = subst (RowSays t n) (sym (c .is-answer ∙ show-of t n false true e g)) (loginIn (rowAt t n), row-is t n (c .bytes) g)
       by false false e g = subst (RowSays t n) (sym (c .is-answer ∙ show-of t n false false e g)) (leb-false (length t) (256 * n) e, g)
 
 -- Q6.c: of a table of logins that fit, each row gives the values of its login.
 pub shown-back : {t : List ℕ} {a : Shown} (before : List Login) (l : Login) (others : List Login) → Holds t (before ++ (l ∷ others)) → Shows t (length before) a
-    → (a ≡ shown.Of (valuesOf l)) × (loginIn (rowAt t (length before)) ≡ l)
+    → (a ≡ shown.Of (valuesOf l)) × RowIs t (length before) l (valuesOf l)
 shown-back {t} {a} before l others h c =
     let f : Fits l = each-middle Fits before l others (h .fits) in
     let r : rowAt t (length before) ≡ rowOf l = ap (λ (x : List ℕ). rowAt x (length before)) (h .is-table) ∙ row-of before l others in
     let n : length t ≡ 256 * (length before + length (l ∷ others)) = ap length (h .is-table) ∙ table-long (before ++ (l ∷ others)) ∙ ap (λ (x : ℕ). 256 * x) (length-append before (l ∷ others)) in
     let i : loginIn (rowAt t (length before)) ≡ l = ap loginIn r ∙ fits-back l f in
-    (c .is-answer ∙ show-of t (length before) false true (lt-leb (length t) (256 * length before) (omega arith)) (ap fineRow r ∙ fits-fine l f) ∙ ap (λ (x : Login). shown.Of (valuesOf x)) i, i)
+    let g : fineRow (rowAt t (length before)) ≡ true = ap fineRow r ∙ fits-fine l f in (
+      c .is-answer ∙ show-of t (length before) false true (lt-leb (length t) (256 * length before) (omega arith)) g ∙ ap (λ (x : Login). shown.Of (valuesOf x)) i,
+      subst (λ (x : Login). RowIs t (length before) x (valuesOf x)) i (row-is t (length before) (c .bytes) g),
+    )
 
 -- Q6.c: an accepted table is that of the logins whose values its rows give: laid again, they are the table, byte for byte.
 pub laid-again : {t : List ℕ} {n : ℕ} → Imports t (imported.Rows n)
     → (ls : List Login) × (n ≡ length ls) × (tableOf ls ≡ t)
-    × ((before : List Login) (l : Login) (others : List Login) (a : Shown) → ls ≡ before ++ (l ∷ others) → Shows t (length before) a → a ≡ shown.Of (valuesOf l))
+    × ((before : List Login) (l : Login) (others : List Login) (a : Shown) → ls ≡ before ++ (l ∷ others) → Shows t (length before) a
+    → (a ≡ shown.Of (valuesOf l)) × RowIs t (length before) l (valuesOf l))
 laid-again {t} c =
     let h = import-says c in
-    (h .0, h .2, sym (h .1 .is-table), λ before l others a e s. shown-back before l others (subst (Holds t) e (h .1)) s .0)
+    (h .0, h .2, sym (h .1 .is-table), λ before l others a e s. shown-back before l others (subst (Holds t) e (h .1)) s)

@@ -6,7 +6,7 @@ use native.Mathlib.Nat.{mod-eq-of-lt, mod-lt}
 use native.Mathlib.Omega.{arith}
 use lib.Dec.{eqb}
 use Rattle.fields.specs.declared.value.Value.{Value}
-use Rattle.rows.specs.Days.{secondsIn, daysBetween, daysOf}
+use Rattle.rows.specs.Days.{secondsIn, daysBetween, Rounded, daysOf}
 
 pub days-ahead : (e t : ℕ) → t ≤ e → e < 2 ^ 32 → (e - t) / 86400 ≡ daysBetween e t
 unfolding daysBetween
@@ -18,14 +18,13 @@ days-behind e t h l =
     let z : 4294967295 - (t - e - 1) / 86400 ≡ (e + 86400 * 2 ^ 32 - t) / 86400 = omega arith in
     z ∙ rw (mod-eq-of-lt {n = (e + 86400 * 2 ^ 32 - t) / 86400} {m = 2 ^ 32} (omega arith))
 
--- 86,400 d ≤ e - t < 86,400 (d + 1)
-pub ahead-rounds : (e t : ℕ) → t ≤ e → e < 2 ^ 32 → (86400 * daysBetween e t ≤ e - t) × (e - t < 86400 * (daysBetween e t + 1))
-ahead-rounds e t h l = rw (← days-ahead e t h l) (omega arith, omega arith)
-
--- the number stands for -d, where 86,400 (d - 1) < t - e ≤ 86,400 d
-pub behind-rounds : (e t : ℕ) → e < t → t < 2 ^ 32
-    → (d : ℕ) × (daysBetween e t + d ≡ 2 ^ 32) × (1 ≤ d) × (86400 * (d - 1) < t - e) × (t - e ≤ 86400 * d)
-behind-rounds e t h l = rw (← days-behind e t h l) ((t - e - 1) / 86400 + 1, omega arith, omega arith, omega arith, omega arith)
+-- Q6.a "divided by 86,400 and rounded towards minus infinity"
+pub rounds : (e t : ℕ) → e < 2 ^ 32 → t < 2 ^ 32 → Rounded e t (daysBetween e t)
+rounds e t k l =
+    record {
+      ahead = λ h. rw (← days-ahead e t h k) (omega arith, omega arith);
+      behind = λ h. rw (← days-behind e t h l) ((t - e - 1) / 86400 + 1, omega arith, omega arith, omega arith, omega arith);
+    }
 
 pub days-fit : (v : Value) (t : ℕ) → daysOf v t < 2 ^ 32
 unfolding daysOf daysBetween

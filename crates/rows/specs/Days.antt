@@ -1,5 +1,6 @@
 -- "Days are expiry minus the given now, both unsigned 32-bit seconds, divided by 86,400 and rounded towards minus infinity; no expiry, or expiry 0, gives 2,147,483,647." (document 02, Q-6)
-use Prim.Native.Nat.{ℕ, _+_, _-_, _*_, _/_, _%_, _^_}
+use Prim.Native.Nat.{ℕ, _+_, _-_, _*_, _/_, _%_, _^_, _<_, _≤_}
+use mathlib.Core.Path.{_≡_}
 use mathlib.Core.Bool.{cond}
 use lib.Dec.{eqb}
 use Rattle.fields.specs.declared.value.Value.{Value}
@@ -21,6 +22,11 @@ secondsIn Value.Text = 0
 secondsIn Value.BadText = 0
 secondsIn Value.Misshapen = 0
 secondsIn Value.Opaque = 0
+
+-- the stored number w stands for the d with 86,400 d ≤ expiry - now < 86,400 (d + 1): for w itself at or ahead of now, and behind now for -k, where w + k is 2^32
+pub record Rounded (expiry now w : ℕ) : Type 0 where
+  pub ahead : now ≤ expiry → (86400 * w ≤ expiry - now) × (expiry - now < 86400 * (w + 1))
+  pub behind : expiry < now → (k : ℕ) × (w + k ≡ 2 ^ 32) × (1 ≤ k) × (86400 * (k - 1) < now - expiry) × (now - expiry ≤ 86400 * k)
 
 unfoldable pub daysOf : Value → ℕ → ℕ
 daysOf expiry now = cond (eqb (secondsIn expiry) 0) 2147483647 (daysBetween (secondsIn expiry) now)

@@ -32,7 +32,7 @@ unfoldable pub beforeZero : List ℕ → ℕ
 beforeZero [] = 0
 beforeZero (b ∷ d) = cond (eqb b 0) 0 (suc (beforeZero d))
 
--- the text in a column of n bytes, and what is after it
+-- the text in a column, and what is after it
 abbrev pub textIn : List ℕ → List ℕ
 textIn c = take (beforeZero c) c
 

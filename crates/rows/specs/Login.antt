@@ -13,7 +13,7 @@ pub record Login : Type 0 where
   pub group : List ℕ
   pub days : ℕ
 
--- d, then zeros, in n bytes
+-- d, then zeros, in n bytes; of more than n bytes the first n, which no accepted export has
 unfoldable pub padded : ℕ → List ℕ → List ℕ
 padded n d = take n (d ++ zeros n)
 

@@ -20,7 +20,7 @@ pub record Holds (table : List ℕ) (ls : List Login) : Type 0 where
   pub fits : Each Fits ls
 
 -- "refuses as 18, at the first such record, a cut record, a text that export would refuse or that has anything but zeros after it, and a non-zero pad": row n is the first
-pub record FirstFault (table : List ℕ) (n : ℕ) : Type 0 where
+pub record FaultyRow (table : List ℕ) (n : ℕ) : Type 0 where
   pub there : 256 * n < length table
   pub bad : fineRow (rowAt table n) ≡ false
   pub before : (k : ℕ) → k < n → fineRow (rowAt table k) ≡ true
@@ -28,11 +28,10 @@ pub record FirstFault (table : List ℕ) (n : ℕ) : Type 0 where
 -- what each answer of an import says
 abbrev pub ImportSays : List ℕ → Imported → Type 0
 ImportSays table (imported.Rows n) = (ls : List Login) × Holds table ls × (n ≡ length ls)
-ImportSays table (imported.Refused n) = FirstFault table n
+ImportSays table (imported.Refused n) = FaultyRow table n
 
 -- row n is that of a login that fits, and v are its values: the texts stand where their rooms start
-pub record RowIs (table : List ℕ) (n : ℕ) (v : Values) : Type 0 where
-  pub login : Login
+pub record RowIs (table : List ℕ) (n : ℕ) (login : Login) (v : Values) : Type 0 where
   pub fits : Fits login
   pub there : 256 * n + 256 ≤ length table
   pub row : rowAt table n ≡ rowOf login
@@ -43,6 +42,6 @@ pub record RowIs (table : List ℕ) (n : ℕ) (v : Values) : Type 0 where
 
 -- what each answer for row n says
 abbrev pub RowSays : List ℕ → ℕ → Shown → Type 0
-RowSays table n (shown.Of v) = RowIs table n v
+RowSays table n (shown.Of v) = (l : Login) × RowIs table n l v
 RowSays table n shown.Refused = (256 * n < length table) × (fineRow (rowAt table n) ≡ false)
 RowSays table n shown.Nowhere = length table ≤ 256 * n

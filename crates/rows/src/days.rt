@@ -5,7 +5,7 @@ ghost use mathlib.Core.Bool.{true};
 ghost use Rattle.fields.specs.Value.{valueOf};
 ghost use Rattle.rows.specs.Days.{secondsIn, daysBetween, daysOf};
 
-// As 32 bits hold them in two's complement: a day that has begun to lie behind counts as one more.
+// In two's complement. Behind now, a day that has begun counts whole.
 fn between(expiry: u32, time: u32) -> u32
     ensures { λ r. ⌜ r ≡ daysBetween expiry time ⌝ }
 {

@@ -20,6 +20,7 @@ returns c =
     let f : wellFormed (g .body .now) ≡ true = sym (c .before .before .before .before .well-formed .ensures) ∙ c .before .before .before .if1 .taken in
     record {
       bytes = bytes-of (g .body .now) (λ i. omega (arith, c .before .before .before .before .before .before .shared-slice-known .given i));
+      small = search needs;
       is-answer = c .before .room-for .ensures ∙ ap (roomFor (length (g .output .now))) (c .before .before .check .ensures) ∙ sym (export-formed (g .body .now) (length (g .output .now)) f);
       is-after = unwritten (c .before .room-for .result) (g .time) (g .body .now) (g .output .now) (c .match .keys2);
     }
@@ -37,6 +38,7 @@ returns-2 c =
     let f : wellFormed (g .body .now) ≡ true = sym (c .before .before .before .before .before .before .before .before .before .before .well-formed .ensures) ∙ c .before .before .before .before .before .before .before .before .before .if1 .taken in
     record {
       bytes = bytes-of (g .body .now) (λ i. omega (arith, c .before .before .before .before .before .before .before .before .before .before .before .before .shared-slice-known .given i));
+      small = search needs;
       is-answer = sym (c .before .before .before .before .before .a .given .1) ∙ c .before .before .before .before .before .before .before .room-for .ensures ∙ ap (roomFor (length (g .output .now))) (c .before .before .before .before .before .before .before .before .check .ensures) ∙ sym (export-formed (g .body .now) (length (g .output .now)) f);
       is-after = c .before .before .fill .ensures;
     }
@@ -46,6 +48,7 @@ returns-3 c =
     let g = c .before .before .before .before .args in
     record {
       bytes = bytes-of (g .body .now) (λ i. omega (arith, c .before .before .before .shared-slice-known .given i));
+      small = search needs;
       is-answer = sym (export-not (g .body .now) (length (g .output .now)) (sym (c .before .well-formed .ensures) ∙ c .if1 .left));
       is-after = refl;
     }

@@ -41,7 +41,7 @@ loop-again : tie.Need-loop-again Inv-loop μ-loop
 loop-again c =
     let g = c .before .before .before .before .before .before .before .before .before .before .before .before .before in
     let l = c .before .before .before .before .before .before .before .before .before .loop in
-    fills-next (g .args .body .now) (g .args .time) (g .args .output .now) (g .args .count) (l .at) (l .to) (l .output) (l .inv) (g .pre .1 .1) _ (c .before .before .before .before .before .before .before .before .loop-test .taken) (c .before .before .before .before .before .before .before .record-at2 .ensures) _ _ _ (c .before .before .before .before .before .row .ensures) (add-sub-cancel-left (l .to) 256) (c .before .before .copy .ensures)
+    fills-next (g .args .body .now) (g .args .time) (g .args .output .now) (g .args .count) (l .at) (l .to) (l .output) (l .inv) (g .pre .1 .1) _ (c .before .before .before .before .before .before .before .before .loop-test .taken) (c .before .before .before .before .before .before .before .record-at2 .ensures) _ _ _ (c .before .before .before .before .before .row-of .ensures) (add-sub-cancel-left (l .to) 256) (c .before .before .copy .ensures)
 
 same-length : tie.Need-same-length Inv-loop μ-loop
 same-length c =
