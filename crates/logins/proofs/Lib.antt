@@ -5,3 +5,4 @@ mod Verdict
 mod Fitting
 mod Expiry
 pub mod Promises
+mod Cases

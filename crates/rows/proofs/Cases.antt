@@ -12,6 +12,7 @@ use Rattle.fields.specs.Value.{recordShape, valueOf}
 use Rattle.rows.specs.Login.{Login, padded, rowOf}
 use Rattle.rows.specs.Days.{daysBetween, daysOf}
 use Rattle.rows.specs.Fit.{unfit}
+use Rattle.rows.specs.Answers.{signed}
 use Rattle.rows.specs.Import.{beforeZero, fineColumn, fineRow, loginIn, importFrom, importOf, valuesOf, showOf}
 use Rattle.rows.specs.declared.Imported.the-variants as imported
 use Rattle.rows.specs.declared.Shown.the-variants as shown
@@ -74,12 +75,16 @@ row-fine : fineRow row ≡ true
 unfolding fineRow fineColumn unfit beforeZero valueOf recordShape endsWhole same
 row-fine = refl
 
--- cut, too long; a byte after the text, and the last of its column; each byte of the pad; a text that is none, in each column
+-- cut, too long; a byte after each text, and the last of its column; each byte of the pad; a text that is none, in each column
 damaged : map fineRow
     (take 255 row
     ∷ (row ++ (0 ∷ []))
     ∷ set row 19 0x43
     ∷ set row 95 0x43
+    ∷ set row 98 0x43
+    ∷ set row 175 0x43
+    ∷ set row 180 0x43
+    ∷ set row 247 0x43
     ∷ set row 252 1
     ∷ set row 253 1
     ∷ set row 254 1
@@ -88,7 +93,7 @@ damaged : map fineRow
     ∷ set row 96 0xff
     ∷ set row 176 0xff
     ∷ [])
-    ≡ replicate 11 false
+    ≡ replicate 15 false
 unfolding fineRow fineColumn unfit beforeZero valueOf recordShape endsWhole same
 damaged = refl
 
@@ -118,3 +123,12 @@ shows : map (showOf (set row 255 1 ++ (row ++ (0 ∷ [])))) (0 ∷ 1 ∷ 2 ∷ 3
     ≡ shown.Refused ∷ shown.Of (valuesOf login) ∷ shown.Refused ∷ shown.Nowhere ∷ []
 unfolding showOf loginIn numberLow fineRow fineColumn unfit beforeZero valueOf recordShape endsWhole same
 shows = refl
+
+-- any UUID and any days are fine
+still-fine : map fineRow (set row 0 0xff ∷ set row 15 0 ∷ set row 248 0 ∷ set row 251 0x80 ∷ []) ≡ replicate 4 true
+unfolding fineRow fineColumn unfit beforeZero valueOf recordShape endsWhole same
+still-fine = refl
+
+-- the largest number of days, the smallest, and -1, in 64 bits
+in-64-bits : map signed (2147483647 ∷ 2147483648 ∷ 4294967295 ∷ []) ≡ 2147483647 ∷ 18446744071562067968 ∷ 18446744073709551615 ∷ []
+in-64-bits = refl

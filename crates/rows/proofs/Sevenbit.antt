@@ -18,7 +18,8 @@ use Rattle.fields.specs.declared.value.Shape.{Shape}
 use Rattle.fields.specs.declared.value.Shape.the-variants as Shape
 use Rattle.fields.specs.declared.value.Value.{Value}
 use Rattle.fields.specs.declared.value.Value.the-variants as Value
-use Rattle.rows.specs.Fit.{isBadText, plainByte, isPlain}
+use Rattle.rows.specs.Fit.{isBadText}
+use Rattle.rows.specs.Plain.{plainByte, isPlain}
 
 -- ---- as far as a loop has come
 and-again : (a b c : Bool) → ((a && b) && c) ≡ (a && (b && c))

@@ -4,7 +4,8 @@ use fields::Value;
 ghost use mathlib.Core.Path.{_≡_};
 ghost use mathlib.Core.Bool.{true, _&&_};
 ghost use Rattle.fields.specs.Value.{valueOf};
-ghost use Rattle.rows.specs.Fit.{isBadText, isMisshapen, plainByte, isPlain, unfit as unfitOf};
+ghost use Rattle.rows.specs.Fit.{isBadText, isMisshapen, unfit as unfitOf};
+ghost use Rattle.rows.specs.Plain.{plainByte, isPlain};
 
 fn is_bad_text(v: Value) -> bool
     ensures { λ r. ⌜ r ≡ isBadText v ⌝ }

@@ -3,7 +3,7 @@ use Prim.Native.Nat.{_+_, _-_, _≤_}
 use mathlib.Core.Path.{_≡_, ap, _∙_}
 use mathlib.Core.Bool.{Bool, _&&_}
 use lib.ListN.{length, drop}
-use Rattle.rows.specs.Fit.{isPlain}
+use Rattle.rows.specs.Plain.{isPlain}
 use Rattle.rows.proofs.Sevenbit.{plain-on, plain-end}
 use borrow.Author.Needs.{needs}
 use Rattle.rows.proofs.fit.plain.Statement.{statement}

@@ -9,7 +9,8 @@ use borrow.Author.Tests.{lt-ltb, le-ltb}
 use Rattle.fields.specs.Value.{valueOf}
 use Rattle.fields.specs.declared.value.Value.{Value}
 use Rattle.rows.specs.Import.{beforeZero}
-use Rattle.rows.specs.Fit.{isBadText, isPlain, unfit}
+use Rattle.rows.specs.Fit.{isBadText, unfit}
+use Rattle.rows.specs.Plain.{isPlain}
 use Rattle.rows.proofs.Zero.{zero-inside}
 use Rattle.rows.proofs.Sevenbit.{plain-zero, plain-fine}
 use borrow.Author.Needs.{needs}

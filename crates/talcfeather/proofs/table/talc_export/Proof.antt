@@ -14,6 +14,7 @@ returns c =
     let said = c .before .before .before .before .before .before .before .export .ensures in
     record {
       bytes = said .bytes;
+      small = said .small;
       is-number = c .export-number .ensures ∙ ap exportNumber (said .is-answer);
       is-output = said .is-after ∙ ap (λ (r : Exported). outputAfter r (g .time) (g .body .now) (g .output .now)) (said .is-answer);
       is-answer = c .before .store .ensures ∙ ap inBytes (c .before .before .before .before .export-numbers .ensures ∙ ap exportNumbers (said .is-answer));
