@@ -1,6 +1,5 @@
 -- `rows::fit::and_plain` meets its contract: each return is the case that its tests pick.
 use borrow.Author.Tests.{lt-ltb, le-ltb}
-use borrow.Author.Needs.{needs}
 use Rattle.rows.proofs.fit.and_plain.Statement.{statement}
 use Rattle.rows.proofs.fit.and_plain.Tie as tie
 
