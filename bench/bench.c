@@ -1,7 +1,8 @@
 /*
  * The proved code beside others, in one run: SHA-256 of a long message, whole and in pieces;
- * stretching; Twofish; whole files; judging a body; replaying a trace. Each contest checks that all
- * contenders come to the same outcome. Libraries that are not there are left out.
+ * stretching; Twofish; whole files; judging a body; replaying a trace; exporting a table beside
+ * judging its body. Each contest checks that all contenders come to the same outcome. Libraries
+ * that are not there are left out.
  */
 #include <stdio.h>
 
@@ -50,6 +51,14 @@
     {"Replaying 1,000,000 records, " over, "M/s", RECORDS / 1e6, 3, prepare, \
      {PROVED(replay_proved) SQLITE(replay_sqlite)}}
 
+#define MILLIONS(length, login) (((length) - 32) / (login) / 1e6)
+#define EXPORT(what, prepare, length, login) \
+    {"Exporting " what, "M/s", MILLIONS(length, login), 9, prepare, \
+     {PROVED(export_proved) {"judging the same body", judge_records, 0}}}
+#define IMPORT(what, prepare, length, login) \
+    {"Importing the table of " what, "M/s", MILLIONS(length, login), 9, prepare, \
+     {PROVED(import_proved)}}
+
 enum { SHORT = 1u << 20, LONG = 4194096 };
 
 static void safe_of(size_t length, uint32_t iter)
@@ -68,6 +77,11 @@ static void some_random(void) { make_trace(64, 0); }
 static void many_random(void) { make_trace(4096, 0); }
 static void some_counted(void) { make_trace(64, 1); }
 static void many_counted(void) { make_trace(4096, 1); }
+static void common_4(void) { make_logins(LONG, COMMON_LOGIN); }
+static void common_2(void) { make_logins(LONG / 2, COMMON_LOGIN); }
+static void common_1(void) { make_logins(LONG / 4, COMMON_LOGIN); }
+static void small_4(void) { make_logins(LONG, SMALL_LOGIN); }
+static void filled_4(void) { make_logins(LONG, FILLED_LOGIN); }
 
 enum { ONE_MESSAGE, IN_PIECES };
 
@@ -96,22 +110,54 @@ static struct contest contests[] = {
     REPLAY("4,096 UUIDs", many_random),
     REPLAY("64 counted up", some_counted),
     REPLAY("4,096 counted up", many_counted),
+    EXPORT("4 MB of logins", common_4, LONG, COMMON_LOGIN),
+    EXPORT("2 MB of logins", common_2, LONG / 2, COMMON_LOGIN),
+    EXPORT("1 MB of logins", common_1, LONG / 4, COMMON_LOGIN),
+    EXPORT("4 MB of the smallest logins", small_4, LONG, SMALL_LOGIN),
+    EXPORT("4 MB of logins that fill their rows", filled_4, LONG, FILLED_LOGIN),
+    IMPORT("4 MB of logins", common_4, LONG, COMMON_LOGIN),
+    IMPORT("4 MB of logins that fill their rows", filled_4, LONG, FILLED_LOGIN),
 };
 
-/* The replays are the last. */
+/* The tables are the last, and the replays before them. */
 enum { COUNT = sizeof contests / sizeof contests[0] };
-enum { REPLAYS = COUNT - 5, RANDOM_64, RANDOM_4096, COUNTED_64, COUNTED_4096 };
+enum { TABLES = COUNT - 7, COMMON_2, COMMON_1, SMALL_4, FILLED_4 };
+enum { REPLAYS = TABLES - 5, RANDOM_64, RANDOM_4096, COUNTED_64, COUNTED_4096 };
 
 /* How long a record takes, and what more UUIDs cost. */
 static void tell_replays(void)
 {
     printf("\nns a record\n");
-    for (int i = REPLAYS; i < COUNT; i++)
+    for (int i = REPLAYS; i < TABLES; i++)
         for (const struct contender *c = contests[i].contenders; c->name != NULL; c++)
             printf("  %-46s %-18s %8.1f\n", contests[i].title, c->name, c->seconds / RECORDS * 1e9);
     printf("\nproved, a record over 4,096 UUIDs against one over 64: %.2f; counted up: %.2f\n",
            contests[RANDOM_4096].contenders->seconds / contests[RANDOM_64].contenders->seconds,
            contests[COUNTED_4096].contenders->seconds / contests[COUNTED_64].contenders->seconds);
+}
+
+/* Of an export, the time as a multiple of that of judging alone, in the same rounds. */
+static double against_judging(int i)
+{
+    return contests[i].contenders[0].seconds / contests[i].contenders[1].seconds;
+}
+
+static double login_ns(int i)
+{
+    return contests[i].contenders->seconds / contests[i].work * 1e3;
+}
+
+/* How long a login takes, what more logins cost, and what export costs beside judging. */
+static void tell_tables(void)
+{
+    printf("\nns a login\n");
+    for (int i = TABLES; i < COUNT; i++)
+        printf("  %-60s %8.1f\n", contests[i].title, login_ns(i));
+    printf("\nproved, a login of 4 MB against one of 1 MB: %.2f; of 2 MB: %.2f\n",
+           login_ns(TABLES) / login_ns(COMMON_1), login_ns(COMMON_2) / login_ns(COMMON_1));
+    printf("proved, exporting 4 MB against judging it: %.2f; the smallest logins: %.2f; logins "
+           "that fill their rows: %.2f\n",
+           against_judging(TABLES), against_judging(SMALL_4), against_judging(FILLED_4));
 }
 
 int main(int count, char **arguments)
@@ -129,5 +175,6 @@ int main(int count, char **arguments)
     printf("\nproved, pieces of 50 bytes against the whole slice: %.2f\n",
            contests[ONE_MESSAGE].contenders->seconds / contests[IN_PIECES].contenders->seconds);
     tell_replays();
+    tell_tables();
     return count > 1 ? contest_draw(contests, COUNT, arguments[1]) : 0;
 }

@@ -11,6 +11,9 @@
 #define CHAIN 200000
 #define KEYS 2000
 #define RECORDS 1000000u
+#define SMALL_LOGIN 80u
+#define COMMON_LOGIN 160u
+#define FILLED_LOGIN 352u
 
 /* The proved lower layers. */
 void probe_hash(const uint8_t *m, size_t n, uint8_t out[32]);
@@ -40,6 +43,7 @@ runs cbc_proved, cbc_gcrypt, cbc_nettle;
 runs keys_proved, keys_gcrypt, keys_nettle;
 runs read_proved, read_others, judge_proved;
 runs replay_proved, replay_sqlite;
+runs export_proved, judge_records, import_proved;
 
 /* A body of records up to about that many bytes, each with notes of that length and some small
    fields; and a safe around it. They stay for the contenders above. */
@@ -47,10 +51,17 @@ extern uint8_t body[], safe[], workspace[];
 extern size_t body_len;
 void make_body(size_t length, size_t notes, int small);
 void make_safe(uint32_t iter);
+/* Adds one field to the body. */
+void add_field(uint8_t type, const void *data, size_t n);
 
 /* A trace of RECORDS records over that many UUIDs, random ones or counted up from 0. It stays for
    the contenders above. */
 void make_trace(size_t uuids, int counted);
+
+/* A body up to that many bytes, of logins that take so many each, and its table: SMALL_LOGIN has no
+   field that may be left out, COMMON_LOGIN every field that a table has, and in FILLED_LOGIN all
+   texts fill their rooms. */
+void make_logins(size_t length, size_t login);
 
 /* Ends the run. */
 void stop(const char *what);

@@ -25,7 +25,7 @@ void stop(const char *what)
     exit(1);
 }
 
-static void add(uint8_t type, const void *data, size_t n)
+void add_field(uint8_t type, const void *data, size_t n)
 {
     static const uint8_t fill[15] = {0};
     uint8_t next[8];
@@ -40,18 +40,18 @@ void make_body(size_t length, size_t notes, int small)
     static const uint8_t version[2] = {0x0e, 0x03};
     uint8_t uuid[16] = {0};
     body_len = 0;
-    add(0x00, version, 2);
-    add(0xff, NULL, 0);
+    add_field(0x00, version, 2);
+    add_field(0xff, NULL, 0);
     for (size_t record = 0; body_len + notes + 16 * (size_t)small + 160 < length; record++) {
         memcpy(uuid, &record, sizeof record);
-        add(0x01, uuid, 16);
-        add(0x03, "Title", 5);
-        add(0x06, "password", 8);
+        add_field(0x01, uuid, 16);
+        add_field(0x03, "Title", 5);
+        add_field(0x06, "password", 8);
         if (notes > 0)
-            add(0x05, message, notes);
+            add_field(0x05, message, notes);
         for (int i = 0; i < small; i++)
-            add(0x02, "user", 4); /* Text in a record, and it would be in the header */
-        add(0xff, NULL, 0);
+            add_field(0x02, "user", 4); /* Text in a record, and it would be in the header */
+        add_field(0xff, NULL, 0);
     }
 }
 

@@ -31,7 +31,7 @@
  * ------------------------------------------------------------------------
  * Words
  *
- * body      the decrypted content of a safe: a row of fields
+ * body      the decrypted content of a safe: fields, one after the other
  * field     length (4 bytes, lowest first), type (1), data, fill to the next
  *           multiple of 16. It takes the smallest number of 16-byte blocks
  *           that holds 5 + length bytes.
@@ -43,13 +43,22 @@
  * ceiling   the largest ITER for which the caller is willing to wait
  * marker    the 16 bytes PWS3-EOFPWS3-EOF between body and HMAC
  * workspace memory that receives the body
- * trace     what a tablet recorded: a row of records of 32 bytes, no header.
+ * trace     what a tablet recorded: records of 32 bytes, no header.
  *           A record holds UUID (16), time (4, lowest byte first), kind (1: 1
  *           edit, 2 cancel, 3 reissue) and pad (11 zeros). It has nothing to
  *           do with the records of a body.
  * state     131,072 bytes that keep what the accepted traces came to; fresh,
  *           it is zero
  * standing  whether a login is cancelled, and by which times
+ * table     the logins of a body for the job card app: a row for each record,
+ *           in order, no header
+ * row       256 bytes: UUID (16), title (80), user name (80), group (72), days
+ *           (4, signed, two's complement, lowest byte first), pad (4 zeros).
+ *           A text has zeros after it, to the end of its room; one that fills
+ *           its room has no zero after it.
+ * days      whole days from the given now to the expiry, rounded down: 0 for
+ *           an expiry in the 86,400 seconds from now on, -1 in those before.
+ *           2,147,483,647 (TALC_NO_EXPIRY) where there is no expiry.
  *
  * A body is well formed when all of these hold: it divides exactly into
  * fields; every END has length 0; the first field is Version (00), length 2,
@@ -75,19 +84,23 @@ extern "C" {
 #define TALC_OK            0  /* not refused */
 #define TALC_LENGTH        1  /* read, write: the file or body has a length that no safe has */
 #define TALC_PASSPHRASE    2  /* read, write: the passphrase is over 1,024 bytes */
-#define TALC_ROOM          3  /* read, write, append: memory too short, or past the longest body */
+#define TALC_ROOM          3  /* read, write, append, export: memory too short, or (append) past
+                                  the longest body */
 #define TALC_TAG           4  /* read: the file does not start with PWS3 */
 #define TALC_ITER          5  /* read, write: ITER is under 2,048 */
 #define TALC_CEILING       6  /* read: ITER is above the caller's ceiling */
 #define TALC_MARKER        7  /* read: the marker is not where the file's length says */
 #define TALC_WRONG         8  /* read: not the passphrase of this file */
-#define TALC_BODY          9  /* read, write, judge, find: body not well formed, or (read) HMAC differs */
+#define TALC_BODY          9  /* read, write, judge, find, export: body not well formed, or (read)
+                                  HMAC differs */
 #define TALC_COLLISION    10  /* write: an encrypted block equals the marker; take another iv */
 #define TALC_PLACE        11  /* append, walk: place no multiple of 16, or past the end */
 #define TALC_FILL         12  /* append: fill is not exactly the needed number of bytes */
 #define TALC_END_DATA     13  /* append: END with data */
 #define TALC_FIELD        14  /* walk: the field is cut or passes the end, or END with data */
 #define TALC_TRACE        16  /* replay: a record of the trace is at fault; the answer has its number */
+#define TALC_TABLE        18  /* export, import, row: a login or a row that the table does not hold;
+                                  the answer of export and of import says which */
 #define TALC_STATE        19  /* replay, standing: the lent memory is no state */
 
 /* Limits, in bytes, and the smallest ITER. */
@@ -108,6 +121,21 @@ extern "C" {
 #define TALC_KIND_CANCEL   2
 #define TALC_KIND_REISSUE  3
 
+/* A row, in bytes: its size, where its parts stand, and the rooms of its texts. */
+#define TALC_ROW_SIZE            256u
+#define TALC_ROW_UUID              0u
+#define TALC_ROW_TITLE            16u
+#define TALC_ROW_USER             96u
+#define TALC_ROW_GROUP           176u
+#define TALC_ROW_DAYS            248u
+#define TALC_ROW_PAD             252u
+#define TALC_TITLE_ROOM           80u
+#define TALC_USER_ROOM            80u
+#define TALC_GROUP_ROOM           72u
+
+/* The days of a login without an expiry. */
+#define TALC_NO_EXPIRY    2147483647
+
 /* Sizes of answers. */
 #define TALC_READ_ANSWER      96
 #define TALC_WALK_ANSWER      72
@@ -115,6 +143,9 @@ extern "C" {
 #define TALC_FIND_ANSWER      24
 #define TALC_REPLAY_ANSWER     8
 #define TALC_STANDING_ANSWER  40
+#define TALC_EXPORT_ANSWER    24
+#define TALC_IMPORT_ANSWER    16
+#define TALC_ROW_ANSWER       56
 
 /* The 8-byte number that stands at `p`, lowest byte first. */
 static inline uint64_t talc_number(const uint8_t *p)
@@ -364,6 +395,86 @@ uint32_t talc_replay(uint8_t *state, size_t state_len,
 uint32_t talc_standing(const uint8_t *state, size_t state_len,
                        const uint8_t uuid[16],
                        uint8_t answer[TALC_STANDING_ANSWER]);
+
+/*
+ * Exports the logins of a body as a table. Of a record's fields only these go
+ * out: UUID (01), title (03), user name (04), group (02) and expiry (0a); of
+ * several of one type the first counts. No password leaves, and nothing of any
+ * other field does. A field that is not there, or is EMPTY, is the empty text,
+ * or no expiry; so is an expiry of 0. `now` is in seconds since 1970-01-01, as
+ * an expiry is; both are without a sign.
+ *
+ * An output of 256 bytes for each record is enough (talc_judge() tells how many
+ * there are); a longer one is fine.
+ *
+ * Refusals, the first that applies, in this order:
+ *   9  the body is not well formed
+ *  18  a login that a row does not hold: a title or user name over 80 bytes, a
+ *      group over 72, one of them BADTEXT or with a zero byte in it, or a
+ *      MISSHAPEN expiry
+ *   3  output_len under 256 for each record
+ *
+ * The answer, three numbers by offset:
+ *    0  number of rows written
+ *    8  for 18, number of the first such record, from 0
+ *   16  for 18, type of its first such field, of 03, 04, 02, 0a in this order
+ *
+ * Accepted (0): the output starts with the table; the bytes after it are
+ * unchanged. The numbers at 8 and 16 are 0.
+ * Refused: the output is unchanged. For 9 and 3 the answer is zero; for 18 the
+ * number at 0 is 0.
+ *
+ * The output must not overlap the body. A test holds the call to 16 KB of stack.
+ */
+uint32_t talc_export(const uint8_t *body, size_t body_len,
+                     uint32_t now,
+                     uint8_t *output, size_t output_len,
+                     uint8_t answer[TALC_EXPORT_ANSWER]);
+
+/*
+ * Says whether these bytes are a table, all of them. talc_row() then has the
+ * values of each row, and they are those that talc_export() wrote. Days, UUIDs
+ * and empty texts may be any; an empty table is one. Nothing in a table is
+ * authentic: who can write it decides what it says.
+ *
+ * Refusal: 18, when a row is at fault: it is cut (the last, of 1 to 255 bytes);
+ * a text of it, which is what stands before its room's first zero, is BADTEXT,
+ * or has anything but zeros after it; or its pad is not zero.
+ *
+ * The answer, two numbers by offset:
+ *    0  number of rows
+ *    8  for 18, number of the first such row, from 0; else 0
+ *
+ * Refused: the number at 0 is 0. Nothing else is written. A test holds the call
+ * to 16 KB of stack.
+ */
+uint32_t talc_import(const uint8_t *table, size_t table_len,
+                     uint8_t answer[TALC_IMPORT_ANSWER]);
+
+/*
+ * Takes one row of a table, by its number from 0. It looks at this row alone.
+ *
+ * Refusal: 18, when this row is at fault, as for talc_import().
+ *
+ * The answer, seven numbers by offset:
+ *    0  1 if there is such a row; 0 if number is past the end
+ *    8  bytes 0 to 7 of the UUID, as they are stored
+ *   16  bytes 8 to 15 of it
+ *   24  length of the title; it starts at 256 * number + TALC_ROW_TITLE
+ *   32  length of the user name, at TALC_ROW_USER
+ *   40  length of the group, at TALC_ROW_GROUP
+ *   48  days, signed: two's complement in all 8 bytes, of which the first four
+ *       are the row's own
+ *
+ * The texts are the table's own bytes, and end by their lengths, not always by a
+ * zero.
+ *
+ * Past the end, or refused: the answer is zero. Nothing else is written. A test
+ * holds the call to 16 KB of stack.
+ */
+uint32_t talc_row(const uint8_t *table, size_t table_len,
+                  size_t number,
+                  uint8_t answer[TALC_ROW_ANSWER]);
 
 #ifdef __cplusplus
 }

@@ -48,12 +48,14 @@ pub mod raw;
 mod refusal;
 mod replay;
 mod safe;
+mod table;
 
 pub use body::{find, judge, Counts, Found};
 pub use fields::{append, fill_needed, walk, Cursor, Field, Value, END};
 pub use refusal::Refusal;
 pub use replay::{replay, standing, trace_record, Kind, Standing};
 pub use safe::{read, read_counted, write, Opened, Parts, Work};
+pub use table::{export, import, row, Row};
 
 /// No file is longer, in bytes.
 pub const FILE_MAX: usize = 4_194_304;
@@ -71,3 +73,25 @@ pub const STATE_SIZE: usize = 131_072;
 pub const TRACE_RECORD: usize = 32;
 /// A state holds at most this many UUIDs.
 pub const STATE_UUIDS: usize = 4096;
+/// A row of a table has this length, in bytes.
+pub const ROW_SIZE: usize = 256;
+/// Where a row's UUID starts.
+pub const ROW_UUID: usize = 0;
+/// Where a row's title starts.
+pub const ROW_TITLE: usize = 16;
+/// Where a row's user name starts.
+pub const ROW_USER: usize = 96;
+/// Where a row's group starts.
+pub const ROW_GROUP: usize = 176;
+/// Where a row's days start: 4 bytes, signed, lowest first.
+pub const ROW_DAYS: usize = 248;
+/// Where a row's pad starts: 4 zeros.
+pub const ROW_PAD: usize = 252;
+/// The longest title that a row holds, in bytes.
+pub const TITLE_ROOM: usize = 80;
+/// The longest user name that a row holds, in bytes.
+pub const USER_ROOM: usize = 80;
+/// The longest group that a row holds, in bytes.
+pub const GROUP_ROOM: usize = 72;
+/// The days of a login without an expiry.
+pub const NO_EXPIRY: i32 = 2_147_483_647;

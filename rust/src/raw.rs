@@ -80,6 +80,27 @@ extern "C" {
         uuid: *const [u8; 16],
         answer: *mut [u8; 40],
     ) -> u32;
+
+    /// Exports the logins of a body as a table.
+    pub fn talc_export(
+        body: *const u8,
+        body_len: usize,
+        now: u32,
+        output: *mut u8,
+        output_len: usize,
+        answer: *mut [u8; 24],
+    ) -> u32;
+
+    /// Says whether these bytes are a table.
+    pub fn talc_import(table: *const u8, table_len: usize, answer: *mut [u8; 16]) -> u32;
+
+    /// Takes one row of a table.
+    pub fn talc_row(
+        table: *const u8,
+        table_len: usize,
+        number: usize,
+        answer: *mut [u8; 56],
+    ) -> u32;
 }
 
 /// The 8-byte numbers of an answer, in order. Missing bytes count as zero.

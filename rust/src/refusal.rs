@@ -52,6 +52,14 @@ pub enum Refusal {
     /// 16: the record with this number, from 0, is the first of the trace that is cut, of an unknown
     /// kind, with a pad that is not zero, or of one UUID too many.
     Trace(u64),
+    /// 18: the record with this number, from 0, is the first that a table does not hold, by the field
+    /// of this type (export); or the row with this number is at fault (import, row: no field).
+    Table {
+        /// Of the record or row, from 0.
+        number: u64,
+        /// Type of the field: 03, 04, 02 or 0a.
+        field: Option<u8>,
+    },
     /// 19: the lent memory is no state.
     State,
     /// A number that this crate does not know: the archive is newer than it.
@@ -61,9 +69,9 @@ pub enum Refusal {
 use Refusal::*;
 
 /// A refusal's number, the refusal, its meaning and what to do about it.
-type Row = (u32, Refusal, &'static str, &'static str);
+type Told = (u32, Refusal, &'static str, &'static str);
 
-const TABLE: [Row; 16] = [
+const ALL: [Told; 17] = [
     (
         1,
         Length,
@@ -120,6 +128,12 @@ const TABLE: [Row; 16] = [
         "copy the trace again, unless it brings more logins than a state holds",
     ),
     (
+        18,
+        Table { number: 0, field: None },
+        "a login that a table does not hold, or a row at fault",
+        "mend that field of the login, or take another copy of the table",
+    ),
+    (
         19,
         State,
         "this is no state",
@@ -132,12 +146,12 @@ impl Refusal {
     pub fn number(self) -> u32 {
         match self {
             Other(number) => number,
-            _ => self.row().map_or(0, |row| row.0),
+            _ => self.told().map_or(0, |told| told.0),
         }
     }
 
-    /// The refusal with that number; none for 0. The number 16 alone does not tell the record: it
-    /// gives record 0.
+    /// The refusal with that number; none for 0. The numbers 16 and 18 alone do not tell which record
+    /// or row: they give number 0.
     ///
     /// ```
     /// use talcfeather::Refusal;
@@ -146,23 +160,23 @@ impl Refusal {
     /// assert_eq!(Refusal::from_number(0), None);
     /// ```
     pub fn from_number(number: u32) -> Option<Refusal> {
-        let row = TABLE.iter().find(|row| row.0 == number);
-        (number != 0).then(|| row.map_or(Other(number), |row| row.1))
+        let told = ALL.iter().find(|told| told.0 == number);
+        (number != 0).then(|| told.map_or(Other(number), |told| told.1))
     }
 
-    /// By the variant alone: a record's number is not in the table.
-    fn row(self) -> Option<&'static Row> {
-        TABLE.iter().find(|row| discriminant(&row.1) == discriminant(&self))
+    /// By the variant alone: no record's number is in there.
+    fn told(self) -> Option<&'static Told> {
+        ALL.iter().find(|told| discriminant(&told.1) == discriminant(&self))
     }
 
     /// What is wrong.
     pub fn meaning(self) -> &'static str {
-        self.row().map_or("a refusal that this program does not know", |row| row.2)
+        self.told().map_or("a refusal that this program does not know", |told| told.2)
     }
 
     /// What a person can do about it.
     pub fn advice(self) -> &'static str {
-        self.row().map_or("use a newer version of this program", |row| row.3)
+        self.told().map_or("use a newer version of this program", |told| told.3)
     }
 
     /// The outcome for a number that a call returned.
@@ -174,8 +188,11 @@ impl Refusal {
 impl fmt::Display for Refusal {
     fn fmt(&self, f: &mut fmt::Formatter<'_>) -> fmt::Result {
         write!(f, "{}: {}", self.number(), self.meaning())?;
-        if let Trace(record) = self {
-            write!(f, ", number {record}")?;
+        if let Trace(number) | Table { number, .. } = self {
+            write!(f, ", number {number}")?;
+        }
+        if let Table { field: Some(field), .. } = self {
+            write!(f, ", field {field:02x}")?;
         }
         write!(f, ": {}", self.advice())
     }

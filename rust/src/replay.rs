@@ -26,7 +26,7 @@ pub struct Standing {
     pub reissue: Option<u32>,
 }
 
-/// One record of a trace, as it is stored: a trace is a row of them.
+/// One record of a trace, as it is stored: a trace is these, one after the other.
 ///
 /// ```
 /// use talcfeather::{trace_record, Kind};

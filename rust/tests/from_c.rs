@@ -1,4 +1,4 @@
-//! The header and the example, compiled as the README says, with every warning an error.
+//! The header and the examples, compiled as the README says, with every warning an error.
 
 mod common;
 
@@ -43,7 +43,8 @@ fn run(program: &Path, arguments: &[&str]) -> (i32, String) {
 
 #[test]
 fn every_call() {
-    let told = "1 1 0 11 3 12 9 9 19 19 0 16 0 0 0 1 1 5 0 0 16 1\n".to_string();
+    let told = "1 1 0 11 3 12 9 9 19 19 0 16 0 0 0 1 1 5 0 0 16 1 ".to_string();
+    let told = told + "9 3 0 0 0 18 18 0 1 0 1 0 1 1 0 5 80 72 -2\n";
     let program = compiled(&C99, "rust/tests/header.c", "header");
     assert_eq!(run(&program, &[]), (0, told.clone()));
     if has_cpp() {
@@ -63,5 +64,19 @@ fn the_example() {
     assert_eq!(run(&program, &["examples/list.c", ""]).0, 1);
     for unreadable in ["no such file", "examples"] {
         assert_eq!(run(&program, &[unreadable, ""]), (66, String::new()));
+    }
+}
+
+#[test]
+fn the_example_of_a_table() {
+    let program = compiled(&C99, "examples/rows.c", "rows");
+    let (status, out) = run(&program, &["examples/floor.table"]);
+    assert_eq!(status, 0);
+    let rows = ["Lathe 3\tworker\t424", "Mill 1, spindle\tworker\t240"];
+    let rest = ["Label printer\tprint\tno expiry", "Sägewerk\tmüller\tno expiry\n"];
+    assert_eq!(out, [rows, rest].concat().join("\n"));
+    assert_eq!(run(&program, &["examples/floor.psafe3"]), (18, String::new()));
+    for unreadable in ["no such file", "examples"] {
+        assert_eq!(run(&program, &[unreadable]), (66, String::new()));
     }
 }

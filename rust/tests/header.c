@@ -14,6 +14,15 @@ static const uint8_t trace[TALC_TRACE_RECORD] = {
 static const uint8_t mixed[2 * TALC_TRACE_RECORD] = {
     7, 0, 0, 0, 0, 0, 0, 0, 0, 0, 0, 0, 0, 0, 0, 0, 6, 0, 0, 0, TALC_KIND_REISSUE};
 
+/* A row of a table, full but for its title, which is "Lathe"; -2 days. */
+static uint8_t row[TALC_ROW_SIZE];
+/* Version, END, and a record of UUID, title "T" and password "p". */
+static const uint8_t body[112] = {
+    2, 0, 0, 0, 0x00, 0x0e, 3, 0, 0, 0, 0, 0, 0, 0, 0, 0, 0, 0, 0, 0, 0xff, 0, 0, 0, 0, 0, 0, 0,
+    0, 0, 0, 0, 16, 0, 0, 0, 0x01, 1, 2, 3, 4, 5, 6, 7, 8, 9, 10, 11, 12, 13, 14, 15, 16, 0, 0, 0,
+    0, 0, 0, 0, 0, 0, 0, 0, 1, 0, 0, 0, 0x03, 'T', 0, 0, 0, 0, 0, 0, 0, 0, 0, 0, 1, 0, 0, 0, 0x06,
+    'p', 0, 0, 0, 0, 0, 0, 0, 0, 0, 0, 0, 0, 0, 0, 0xff};
+
 static int left; /* bytes of answers that are not zero */
 
 static void told(uint32_t number, const uint8_t *answer, size_t length)
@@ -25,6 +34,43 @@ static void told(uint32_t number, const uint8_t *answer, size_t length)
 
 #define TELL(answer, call) \
     (memset(answer, 0xEE, sizeof answer), told(call, answer, sizeof answer))
+
+static void make_row(void)
+{
+    for (int i = 0; i < 16; i++)
+        row[TALC_ROW_UUID + i] = (uint8_t)(i + 1);
+    memcpy(row + TALC_ROW_TITLE, "Lathe", 5);
+    memset(row + TALC_ROW_USER, 'u', TALC_USER_ROOM);
+    memset(row + TALC_ROW_GROUP, 'g', TALC_GROUP_ROOM);
+    memset(row + TALC_ROW_DAYS, 0xff, 4);
+    row[TALC_ROW_DAYS] = 0xfe;
+}
+
+/* The calls of the login table: answers of zeros, then with something in them. */
+static void tables(void)
+{
+    uint8_t exported[TALC_EXPORT_ANSWER], imported[TALC_IMPORT_ANSWER], one[TALC_ROW_ANSWER];
+    uint8_t table[TALC_ROW_SIZE];
+    TELL(exported, talc_export(NULL, 0, 0, NULL, 0, exported));
+    TELL(exported, talc_export(body, sizeof body, 0, table, sizeof table - 1, exported));
+    TELL(imported, talc_import(NULL, 0, imported));
+    TELL(one, talc_row(NULL, 0, 0, one));
+    TELL(one, talc_row(row, sizeof row, 1, one));
+    TELL(imported, talc_import(row, TALC_ROW_PAD, imported));
+    TELL(one, talc_row(row, TALC_ROW_PAD, 0, one));
+    make_row();
+    printf("%u", (unsigned)talc_export(body, sizeof body, 0, table, sizeof table, exported));
+    printf(" %u", (unsigned)talc_number(exported));
+    printf(" %u", (unsigned)talc_import(table, sizeof table, imported));
+    printf(" %u", (unsigned)talc_number(imported));
+    printf(" %u", (unsigned)talc_row(table, sizeof table, 0, one));
+    printf(" %d", talc_number(one + 48) == TALC_NO_EXPIRY);
+    printf(" %d", memcmp(table + TALC_ROW_UUID, one + 8, 16) == 0);
+    printf(" %u", (unsigned)talc_row(row, sizeof row, 0, one));
+    for (int i = 24; i < 48; i += 8)
+        printf(" %u", (unsigned)talc_number(one + i));
+    printf(" %d\n", (int)(int64_t)talc_number(one + 48));
+}
 
 int main(void)
 {
@@ -50,6 +96,7 @@ int main(void)
     for (int i = 0; i < 5; i++)
         printf(" %u", (unsigned)talc_number(standing + 8 * i));
     printf(" %u", (unsigned)talc_replay(state, sizeof state, mixed, sizeof mixed, replay));
-    printf(" %u\n", (unsigned)talc_number(replay));
+    printf(" %u ", (unsigned)talc_number(replay));
+    tables();
     return left != 0 || talc_number(read) != 0;
 }

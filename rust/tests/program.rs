@@ -308,6 +308,8 @@ fn help_and_version() {
         assert!(
             ended.out.contains("talc replay STATE TRACE..") && ended.out.contains("--state STATE")
         );
+        assert!(ended.out.contains("talc table FILE OUT") && ended.out.contains("--now SECONDS"));
+        assert!(ended.out.contains("talc rows TABLE"));
         assert!(ended.out.lines().all(|line| line.len() <= 80), "fits a terminal");
     }
     assert!(talc(&["--version"], b"").out.starts_with("talc "));

@@ -6,9 +6,7 @@ mod common;
 use common::process::*;
 use common::traces::*;
 use std::fs;
-use std::io;
 use std::os::unix::fs::{symlink, MetadataExt, PermissionsExt};
-use std::os::unix::process::CommandExt;
 use std::path::{Path, PathBuf};
 use std::process::Stdio;
 
@@ -288,15 +286,6 @@ fn no_regular_file() {
     assert_eq!(fs::read_dir(&taken).unwrap().count(), 0);
 }
 
-extern "C" {
-    fn setrlimit(resource: i32, limit: *const [u64; 2]) -> i32;
-    fn signal(number: i32, handler: usize) -> usize;
-}
-
-const LARGEST_FILE: i32 = 1;
-const FILE_TOO_LARGE: i32 = 25;
-const IGNORE: usize = 1;
-
 /// A state that can be written only in part is not written at all.
 #[test]
 fn written_in_part() {
@@ -304,18 +293,7 @@ fn written_in_part() {
     let held = state_of(&[&record(&lathe(), 3, CANCEL)]);
     let trace = folder.put("a.trace", &two_traces()[0]);
     let state = folder.put("floor.state", &held);
-    let mut command = built(env!("CARGO_BIN_EXE_talc"));
-    command.args(["replay", path(&state), path(&trace)]);
-    unsafe {
-        command.pre_exec(|| {
-            signal(FILE_TOO_LARGE, IGNORE);
-            match setrlimit(LARGEST_FILE, &[65_536, 65_536]) {
-                0 => Ok(()),
-                _ => Err(io::Error::last_os_error()),
-            }
-        })
-    };
-    let output = command.stdout(Stdio::piped()).stderr(Stdio::piped()).output().unwrap();
+    let output = talc_writing_at_most(65_536, &["replay", path(&state), path(&trace)]);
     assert_eq!((output.status.code(), output.stdout), (Some(73), Vec::new()));
     assert!(fs::read(&state).unwrap() == held);
     assert_eq!(folder.names(), ["a.trace", "floor.state"]);

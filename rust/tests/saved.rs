@@ -3,10 +3,11 @@
 
 mod common;
 
-use common::calls::{Read, Write};
+use common::calls::{import_ours, import_theirs, row_ours, row_theirs, Export, Read, Write};
+use common::tables::NOW;
 use peer::random::Random;
 use peer::saved::{files, hex, unhex, Listing, Saved};
-use talcfeather::{find, read_counted, walk, write, Cursor, Opened, Parts, Value, END};
+use talcfeather::{find, read_counted, row, walk, write, Cursor, Opened, Parts, Value, END};
 
 /// The listing by the library's own walk: group, title, user, notes, password, URL.
 fn listing(body: &[u8]) -> Listing {
@@ -88,4 +89,42 @@ fn saved_files_between_guards() {
         let case = Write { parts: &parts, body: &opened.body, room: file.len() };
         assert!(case.ours(random).memory == *file, "{}", saved.name);
     }
+}
+
+/// The table of each accepted one: its rows are the listing's own titles, users and groups, and none of
+/// its passwords is in there.
+#[test]
+fn tables_of_saved_files() {
+    let random = &mut Random(2);
+    let mut rows = 0;
+    for saved in files() {
+        let (Ok(opened), _) =
+            peer::safe::read(&saved.file, &saved.passphrase, u32::MAX, saved.file.len())
+        else {
+            continue;
+        };
+        let output = random.bytes(256 * saved.records as usize);
+        let case = Export { body: &opened.body, now: NOW, output: &output };
+        let ours = case.ours(random);
+        assert_eq!(ours, case.theirs(), "{}", saved.name);
+        assert_eq!(ours.number, 0, "{}", saved.name);
+        rows += listed(&ours.memory, &saved.listing, random);
+    }
+    assert!(rows > 400, "{rows} rows");
+}
+
+/// Each row against the listing; how many there are.
+fn listed(table: &[u8], listing: &Listing, random: &mut Random) -> usize {
+    assert_eq!(import_ours(table, random), import_theirs(table));
+    for number in 0..listing.len() {
+        assert_eq!(row_ours(table, number, random), row_theirs(table, number));
+        let row = row(table, number).unwrap().expect("a row");
+        let texts = &listing[&hex(&row.uuid)];
+        let text = |kind: &str| texts.get(kind).map_or("", String::as_str);
+        assert_eq!([row.title, row.user, row.group], ["03", "04", "02"].map(text));
+        let password = text("06").as_bytes();
+        assert!(!table.windows(password.len()).any(|part| part == password), "{}", text("06"));
+    }
+    assert_eq!(row(table, listing.len()), Ok(None));
+    listing.len()
 }

@@ -1,8 +1,10 @@
-//! How much stack replay and standing take: each runs on a painted stack of its own, and the paint
-//! that is left tells.
+//! How much stack replay, standing, export, import and row take: each runs on a painted stack of its
+//! own, and the paint that is left tells.
 
 mod common;
 
+use common::bodies::{part, Part};
+use common::tables::*;
 use common::traces::*;
 use peer::random::Random;
 use std::ffi::c_void;
@@ -120,4 +122,57 @@ fn at_most_16_kb() {
     replay_uses(&mut state[1..], &long, 19);
     state[131_071] = 0xff;
     replay_uses(&mut state, &long, 19);
+}
+
+fn export_uses(body: &[u8], output: &mut [u8], number: u32) {
+    let (mut answer, mut answered) = ([0; 24], 0);
+    let used = used_by(&mut || {
+        let (start, length) = (output.as_mut_ptr(), output.len());
+        answered =
+            unsafe { raw::talc_export(body.as_ptr(), body.len(), NOW, start, length, &mut answer) };
+    });
+    assert_eq!(answered, number);
+    assert!(used <= MOST, "{used} bytes");
+}
+
+/// Import, and every row of the first few.
+fn import_uses(table: &[u8], number: u32) {
+    let (mut answer, mut answered) = ([0; 16], 0);
+    let used = used_by(&mut || {
+        answered = unsafe { raw::talc_import(table.as_ptr(), table.len(), &mut answer) };
+    });
+    assert_eq!(answered, number);
+    assert!(used <= MOST, "{used} bytes");
+    for number in 0..4 {
+        let mut answer = [0; 56];
+        let used = used_by(&mut || {
+            unsafe { raw::talc_row(table.as_ptr(), table.len(), number, &mut answer) };
+        });
+        assert!(used <= MOST, "{used} bytes");
+    }
+}
+
+/// Accepted and refused in each way, short and long.
+#[test]
+fn tables_at_most_16_kb() {
+    let random = &mut Random(2);
+    let fields = [part(USER, &[b'u'; 80]), part(GROUP, &[b'g'; 72]), part(EXPIRY, &[1; 4])];
+    let mut logins: Vec<Vec<Part>> = vec![login(&[7; 16], &fields); 3000];
+    let body = body_of(random, &logins);
+    let mut output = vec![0; 3001 * 256];
+    export_uses(&body, &mut output, 0);
+    export_uses(&body, &mut output[..767_999], 3);
+    export_uses(&body[..body.len() - 1], &mut output, 9);
+    export_uses(&[], &mut [], 9);
+    for fault in [part(TITLE, &[b't'; 81]), part(GROUP, &[0xff]), part(EXPIRY, &[1; 5])] {
+        logins.push(login(&[7; 16], &[fault]));
+        let body = body_of(random, &logins);
+        export_uses(&body, &mut output, 18);
+        logins.pop();
+    }
+    import_uses(&[], 0);
+    import_uses(&output[..768_000], 0);
+    import_uses(&output[..767_999], 18);
+    output[1023] = 1;
+    import_uses(&output, 18);
 }

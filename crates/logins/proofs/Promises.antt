@@ -52,17 +52,20 @@ checked-fault n (u ∷ us) m k e = by (eqb (faultOf u) 0) refl e (checked-fault 
         → (checkedFrom (n + 1) us ≡ Fault m k → (j : ℕ) × (m ≡ n + 1 + j) × FirstFault us j k) → (j : ℕ) × (m ≡ n + j) × FirstFault (u ∷ us) j k
     by true h e ih =
         let x = ih e in
-        let f = x .2 in
-        (1 + x .0, omega (arith, x .1), record {
-          before = u ∷ f .before;
-          faulty = f .faulty;
-          others = f .others;
-          are = ap (_∷_ u) (f .are);
-          number = omega (arith, f .number);
-          none-before = (eqb-true (faultOf u) 0 h, f .none-before);
-          field = f .field;
-          some = f .some;
-        })
+        let f = x .2 in (
+          1 + x .0,
+          omega (arith, x .1),
+          record {
+            before = u ∷ f .before;
+            faulty = f .faulty;
+            others = f .others;
+            are = ap (_∷_ u) (f .are);
+            number = omega (arith, f .number);
+            none-before = (eqb-true (faultOf u) 0 h, f .none-before);
+            field = f .field;
+            some = f .some;
+          },
+        )
     by false h e ih =
         let i : m ≡ n = cc in
         let j : k ≡ faultOf u = cc in

@@ -1,5 +1,6 @@
 mod Tags
 mod Zero
+mod Sevenbit
 pub mod Rounding
 mod Padding
 mod Assembly

@@ -1,10 +1,11 @@
 -- What a row can't hold: "A text too long or BadText, one with a zero byte, or a Misshapen expiry" (document 02, Q-6).
 use Prim.Native.Nat.{ℕ, _^_, _<_}
 use mathlib.Core.Path.{_≡_}
-use mathlib.Core.Bool.{Bool, true, false, _||_}
+use mathlib.Core.Bool.{Bool, true, false, _||_, _&&_}
 use mathlib.Core.List.{List}
 use lib.Dec.{ltb}
 use lib.ListN.{length}
+use Rattle.words.specs.Each.{allIn}
 use Rattle.words.specs.Members.{among}
 use Rattle.fields.specs.Value.{valueOf}
 use Rattle.fields.specs.declared.value.Value.{Value}
@@ -38,6 +39,13 @@ isMisshapen Value.Opaque = false
 -- d: the data of a record's field of type k, for a room of n bytes
 unfoldable pub unfit : ℕ → ℕ → List ℕ → Bool
 unfit k n d = ltb n (length d) || (isBadText (valueOf true k d) || among 0 d)
+
+-- every byte is 01 to 7f: such a text is refused for its length alone, and is told at a glance
+abbrev pub plainByte : ℕ → Bool
+plainByte b = ltb 0 b && ltb b 0x80
+
+abbrev pub isPlain : List ℕ → Bool
+isPlain d = allIn plainByte d
 
 -- what a row holds: a UUID of 16 bytes, texts that are not refused, and any days
 pub record Fits (l : Login) : Type 0 where

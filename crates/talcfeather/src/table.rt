@@ -3,7 +3,12 @@ use super::numbers::store;
 ghost use Rattle.talcfeather.specs.Table.{TalcExport, TalcImport, TalcRow};
 
 #[no_mangle]
-pub extern "C" fn talc_export(body: &[u8], time: u32, output: &mut [u8], answer: &mut [u8; 24]) -> u32
+pub extern "C" fn talc_export(
+    body: &[u8],
+    time: u32,
+    output: &mut [u8],
+    answer: &mut [u8; 24],
+) -> u32
     ensures { λ r. ⌜ TalcExport (now (body .entry)) time (now (output .entry)) r (now (output .exit)) (now (answer .exit)) ⌝ }
 {
     let r = logins::export(body, time, output);

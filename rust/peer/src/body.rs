@@ -39,7 +39,7 @@ fn good_record(record: &[Field]) -> bool {
 }
 
 /// The fields of header and records of a well-formed body.
-fn well_formed(body: &[u8]) -> Result<(Vec<Field>, Vec<Vec<Field>>), u32> {
+pub(crate) fn well_formed(body: &[u8]) -> Result<(Vec<Field>, Vec<Vec<Field>>), u32> {
     let fields = all(body).map_err(|_| 9u32)?;
     let parts = parts(&fields).ok_or(9u32)?;
     let (header, records) = parts.split_first().ok_or(9u32)?;

@@ -1,4 +1,5 @@
-//! An independent implementation of the V3 safe file and of replay, written for the tests alone.
+//! An independent implementation of the V3 safe file, of replay and of the login table, written for
+//! the tests alone.
 //!
 //! It shares no code with the proved library. It is plain and allocates freely;
 //! the tests compare its answers with the library's.
@@ -14,5 +15,6 @@ pub mod safe;
 pub mod saved;
 pub mod sha256;
 pub mod stretch;
+pub mod table;
 pub mod text;
 pub mod twofish;

@@ -6,6 +6,7 @@ use peer::replay::{Accepted, Standing};
 use peer::safe::{read, write};
 use peer::saved::{files, listing_of};
 use peer::stretch::stretch;
+use peer::table::{days, export, import, row, Refused, Row};
 
 #[test]
 fn sizes_of_fields() {
@@ -136,4 +137,78 @@ fn one_uuid_too_many() {
     assert_eq!(accepted.take(&full), Ok(()));
     assert_eq!(accepted.take(&[edit(4095), edit(4096)].concat()), Err(1));
     assert_eq!((accepted.0.len(), accepted.uuids().len()), (4096, 4096));
+}
+
+/// Type and data of a field.
+type Part<'a> = (u8, &'a [u8]);
+
+/// A body of one login: Version, END, and these fields with UUID and password.
+fn one_login(fields: &[Part]) -> Vec<u8> {
+    let before: [Part; 3] = [(0x00, &[0x0e, 0x03]), (0xff, &[]), (0x01, &[7; 16])];
+    let after: [Part; 2] = [(0x06, b"x"), (0xff, &[])];
+    let stored = |(kind, data): &Part| {
+        peer::fields::stored(*kind, data, &vec![0; peer::fields::fill_needed(data.len())])
+    };
+    [&before, fields, &after].concat().iter().flat_map(stored).collect()
+}
+
+/// By the request's own words: 86,400 d <= expiry - now < 86,400 (d + 1).
+#[test]
+fn days_to_expiry() {
+    let times = [0, 1, 86_399, 86_400, 86_401, 172_800, 1 << 31, u32::MAX - 86_400, u32::MAX];
+    for (expiry, now) in times.iter().flat_map(|e| times.map(|n| (*e, n))) {
+        let (d, between) = (i64::from(days(expiry, now)), i64::from(expiry) - i64::from(now));
+        assert!(86_400 * d <= between && between < 86_400 * (d + 1), "{expiry} at {now}");
+    }
+    assert_eq!([days(1, 2), days(2, 1), days(1, 86_401), days(86_401, 1)], [-1, 0, -1, 1]);
+}
+
+#[test]
+fn a_table_there_and_back() {
+    let fields: [Part; 4] =
+        [(0x03, b"Lathe"), (0x0a, &[0, 0, 0, 1]), (0x02, b"Floor"), (0x04, b"worker")];
+    let body = one_login(&fields);
+    let table = export(&body, (1 << 24) + 1, 256).unwrap();
+    let lathe = Row {
+        uuid: [7; 16],
+        title: "Lathe".into(),
+        user: "worker".into(),
+        group: "Floor".into(),
+        days: -1,
+    };
+    assert_eq!((import(&table), row(&table, 0)), (Ok(vec![lathe.clone()]), Ok(Some(lathe))));
+    assert_eq!((table.len(), &table[248..]), (256, &[0xff, 0xff, 0xff, 0xff, 0, 0, 0, 0][..]));
+    assert_eq!(row(&table, 1), Ok(None));
+    assert_eq!(export(&body, 0, 255), Err(Refused::Room));
+    assert_eq!(export(&body[16..], 0, 256), Err(Refused::Body));
+}
+
+#[test]
+fn logins_at_fault() {
+    let long = [b'n'; 81];
+    let cases: [(&[Part], u8); 6] = [
+        (&[(0x03, &long)], 0x03),
+        (&[(0x02, &long[..73]), (0x03, b"t")], 0x02),
+        (&[(0x02, b"a\0b"), (0x04, b"\xff"), (0x03, b"t")], 0x04),
+        (&[(0x0a, &[1, 2, 3]), (0x03, b"t")], 0x0a),
+        (&[(0x0a, &[1, 2, 3]), (0x02, b"\0"), (0x03, b"t")], 0x02),
+        (&[(0x03, b"\xef\xbb\xbft"), (0x02, b"\0")], 0x03),
+    ];
+    for (fields, kind) in cases {
+        assert_eq!(export(&one_login(fields), 0, 0), Err(Refused::Login(0, kind)));
+    }
+    let fits: [Part; 4] = [(0x03, &long[..80]), (0x02, &long[..72]), (0x02, &long), (0x04, b"")];
+    assert!(export(&one_login(&fits), 0, 256).is_ok());
+}
+
+#[test]
+fn rows_at_fault() {
+    for (byte, value) in [(252, 1), (255, 1), (16, 0xff), (17, b'x'), (97, b'x'), (247, b'x')] {
+        let mut table = vec![0; 512];
+        table[256 + byte] = value;
+        assert_eq!((import(&table), row(&table, 1)), (Err(1), Err(1)), "byte {byte}");
+        assert!(row(&table, 0).is_ok());
+    }
+    assert_eq!([import(&[0; 255]), import(&[0; 257])], [Err(0), Err(1)]);
+    assert_eq!(import(&[]), Ok(Vec::new()));
 }

@@ -4,6 +4,7 @@ use super::guarded::Guarded;
 use peer::fields::{Cursor, Value};
 use peer::random::Random;
 use peer::safe::Parts;
+use peer::table::Refused;
 use talcfeather::raw;
 
 /// The number returned, the answer's bytes, and the lent memory afterwards.
@@ -285,6 +286,85 @@ pub fn standing_theirs(accepted: &peer::replay::Accepted, uuid: &[u8; 16]) -> Ou
         .map(|time| [time.is_some().into(), time.unwrap_or(0).into()]);
     let numbers = [&[standing.cancelled.into()][..], &cancel, &reissue].concat();
     Outcome { number: 0, answer: bytes_of(&numbers), memory: Vec::new() }
+}
+
+/// An export into an output that holds these bytes.
+pub struct Export<'a> {
+    pub body: &'a [u8],
+    pub now: u32,
+    pub output: &'a [u8],
+}
+
+impl Export<'_> {
+    pub fn ours(&self, random: &mut Random) -> Outcome {
+        let body = Guarded::new(random, self.body);
+        let mut output = Guarded::new(random, self.output);
+        let mut answer = Guarded::junk(random, 24);
+        let number = unsafe {
+            raw::talc_export(
+                body.pointer(),
+                body.len(),
+                self.now,
+                output.pointer_mut(),
+                output.len(),
+                answer.pointer_mut().cast(),
+            )
+        };
+        body.unchanged();
+        Outcome { number, answer: answer.content(), memory: output.content() }
+    }
+
+    pub fn theirs(&self) -> Outcome {
+        let mut memory = self.output.to_vec();
+        let (number, numbers) = match peer::table::export(self.body, self.now, memory.len()) {
+            Err(Refused::Body) => (9, [0; 3]),
+            Err(Refused::Login(record, kind)) => (18, [0, record, kind.into()]),
+            Err(Refused::Room) => (3, [0; 3]),
+            Ok(table) => {
+                memory[..table.len()].copy_from_slice(&table);
+                (0, [table.len() as u64 / 256, 0, 0])
+            }
+        };
+        Outcome { number, answer: bytes_of(&numbers), memory }
+    }
+}
+
+pub fn import_ours(table: &[u8], random: &mut Random) -> Outcome {
+    let table = Guarded::new(random, table);
+    let mut answer = Guarded::junk(random, 16);
+    let number =
+        unsafe { raw::talc_import(table.pointer(), table.len(), answer.pointer_mut().cast()) };
+    table.unchanged();
+    Outcome { number, answer: answer.content(), memory: Vec::new() }
+}
+
+pub fn import_theirs(table: &[u8]) -> Outcome {
+    let (number, numbers) = match peer::table::import(table) {
+        Ok(rows) => (0, [rows.len() as u64, 0]),
+        Err(at_fault) => (18, [0, at_fault]),
+    };
+    Outcome { number, answer: bytes_of(&numbers), memory: Vec::new() }
+}
+
+pub fn row_ours(table: &[u8], number: usize, random: &mut Random) -> Outcome {
+    let table = Guarded::new(random, table);
+    let mut answer = Guarded::junk(random, 56);
+    let number =
+        unsafe { raw::talc_row(table.pointer(), table.len(), number, answer.pointer_mut().cast()) };
+    table.unchanged();
+    Outcome { number, answer: answer.content(), memory: Vec::new() }
+}
+
+pub fn row_theirs(table: &[u8], number: usize) -> Outcome {
+    let row = peer::table::row(table, number);
+    let number = if row.is_err() { 18 } else { 0 };
+    let mut answer = vec![0; 56];
+    if let Ok(Some(row)) = row {
+        let lengths = [&row.title, &row.user, &row.group].map(|text| text.len() as u64);
+        let days = i64::from(row.days).to_le_bytes();
+        answer = [&bytes_of(&[1])[..], &row.uuid, &bytes_of(&lengths), &days].concat();
+    }
+    Outcome { number, answer, memory: Vec::new() }
 }
 
 /// How often each number was answered; a test asks that each was met.

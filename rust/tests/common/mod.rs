@@ -4,6 +4,8 @@
 
 pub mod bodies;
 pub mod calls;
+pub mod fenced;
 pub mod guarded;
 pub mod process;
+pub mod tables;
 pub mod traces;

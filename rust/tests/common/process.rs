@@ -9,11 +9,17 @@ use std::fs;
 use std::io::Write;
 use std::os::unix::process::CommandExt;
 use std::path::{Path, PathBuf};
-use std::process::{Command, Stdio};
+use std::process::{Command, Output, Stdio};
 
 extern "C" {
     pub fn setsid() -> i32;
+    fn setrlimit(resource: i32, limit: *const [u64; 2]) -> i32;
+    fn signal(number: i32, handler: usize) -> usize;
 }
+
+const LARGEST_FILE: i32 = 1;
+const FILE_TOO_LARGE: i32 = 25;
+const IGNORE: usize = 1;
 
 /// A folder of this test's own, removed at its end.
 pub struct Folder(pub PathBuf);
@@ -88,6 +94,22 @@ pub fn talc(arguments: &[&str], stdin: &[u8]) -> Ended {
     assert!(ended.status == 0 || !ended.err.is_empty(), "a status without a word");
     assert!(ended.err.lines().count() <= 2, "one clear line: {}", ended.err);
     ended
+}
+
+/// Runs talc where no file can be longer than that.
+pub fn talc_writing_at_most(bytes: u64, arguments: &[&str]) -> Output {
+    let mut command = built(env!("CARGO_BIN_EXE_talc"));
+    command.args(arguments).stdout(Stdio::piped()).stderr(Stdio::piped());
+    unsafe {
+        command.pre_exec(move || {
+            signal(FILE_TOO_LARGE, IGNORE);
+            match setrlimit(LARGEST_FILE, &[bytes, bytes]) {
+                0 => Ok(()),
+                _ => Err(std::io::Error::last_os_error()),
+            }
+        })
+    };
+    command.output().unwrap()
 }
 
 pub const PASSPHRASE: &[u8] = b"floor 2";

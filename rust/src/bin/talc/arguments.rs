@@ -28,6 +28,13 @@ talc reads Password Safe V3 files.
                           and why. A refused trace changes nothing; the others
                           are taken. STATE is made if it is not there, else
                           replaced as OUT is, and only if it is a regular file
+  talc table FILE OUT     writes the login table of FILE to OUT: a row of 256
+                          bytes for each login, with UUID, title, user name,
+                          group and days to expiry, and no password; or says
+                          which login does not fit. OUT is replaced as above,
+                          and only if it is a table itself
+  talc rows TABLE         one line a row: UUID, title, user name, group, and
+                          days, expired or no expiry; aligned as list is
 
 Passwords, their history, two-factor keys, card data and QR codes are never
 shown.
@@ -37,17 +44,20 @@ shown.
                           (of both, one final newline is no part of it; without
                           either, the terminal asks, and shows nothing typed)
   --state STATE           with list: the state file to take standings from
+  --now SECONDS           with table: counts days from this time, in seconds
+                          since 1970-01-01 UTC, and not from the clock's
   --ceiling N             refuses files that stretch the passphrase more than N
                           times; 16777216 if not given, which takes some seconds
   --help, --version
   --                      what follows is no option
                           (a value may also follow its option after =)
 
-Exit status: 0; 1 to 14, the number of the refusal; 16 a trace was refused;
-19 STATE is no state, or not whole; 64 wrong arguments; 66 a file can't be read;
-67 no record has that UUID; 70 written again, the file differs; 73 OUT or STATE
-can't be written; 74 standard output can't be written to, though a pipe that its
-reader has closed is no error; 77 given up at the passphrase.
+Exit status: 0; 1 to 14, the number of the refusal; 16 a trace was refused; 18 a
+login does not fit the table, or TABLE is none; 19 STATE is no state, or not
+whole; 64 wrong arguments; 66 a file can't be read; 67 no record has that UUID;
+70 written again, the file differs; 73 OUT or STATE can't be written; 74
+standard output can't be written to, though a pipe that its reader has closed is
+no error; 77 given up at the passphrase.
 ";
 
 /// Four times the largest number that Password Safe itself offers to set.
@@ -68,6 +78,8 @@ pub enum Command {
     Find([u8; 16]),
     Resave(PathBuf),
     Replay(Vec<PathBuf>),
+    Table(PathBuf),
+    Rows,
 }
 
 pub struct Arguments {
@@ -76,6 +88,7 @@ pub struct Arguments {
     pub source: Source,
     pub ceiling: u32,
     pub state: Option<PathBuf>,
+    pub now: Option<u32>,
 }
 
 /// 32 hex digits, as stored, with or without hyphens.
@@ -96,9 +109,12 @@ fn uuid(text: &OsString) -> Result<[u8; 16], Trouble> {
     bytes.try_into().map_err(|_| wrong())
 }
 
-fn number(text: &OsString) -> Result<u32, Trouble> {
+/// The number behind an option, if it is given.
+fn number(option: &str, text: &Option<OsString>) -> Result<Option<u32>, Trouble> {
+    let Some(text) = text else { return Ok(None) };
     let number = text.to_str().and_then(|text| text.parse().ok());
-    number.ok_or_else(|| Trouble::usage("--ceiling needs a number from 0 to 4294967295"))
+    let wrong = || Trouble::usage(format!("{option} needs a number from 0 to 4294967295"));
+    number.map(Some).ok_or_else(wrong)
 }
 
 /// Words and options apart, before they are judged.
@@ -109,6 +125,7 @@ struct Sorted {
     passphrase_stdin: bool,
     ceiling: Option<OsString>,
     state: Option<OsString>,
+    now: Option<OsString>,
     help: bool,
     version: bool,
 }
@@ -139,6 +156,7 @@ impl Sorted {
                 b"--passphrase-stdin" => sorted.passphrase_stdin = true,
                 b"--ceiling" => sorted.ceiling = Some(value()?),
                 b"--state" => sorted.state = Some(value()?),
+                b"--now" => sorted.now = Some(value()?),
                 b"--help" | b"-h" => sorted.help = true,
                 b"--version" => sorted.version = true,
                 b"--" => sorted.words.extend(arguments.by_ref()),
@@ -166,14 +184,20 @@ impl Sorted {
     /// Refuses an option that the command would leave unused.
     fn fits(&self, command: &Command) -> Result<(), Trouble> {
         let opens = self.passphrase_file.is_some() || self.passphrase_stdin;
-        match command {
-            Command::Help | Command::Version | Command::List => Ok(()),
-            _ if self.state.is_some() => Err(Trouble::usage("--state goes with list alone")),
-            Command::Replay(_) if opens || self.ceiling.is_some() => {
-                Err(Trouble::usage("replay opens no safe: no passphrase, no ceiling"))
+        let misfit = match command {
+            Command::Help | Command::Version => return Ok(()),
+            Command::Replay(_) | Command::Rows if opens || self.ceiling.is_some() => {
+                "replay and rows open no safe: no passphrase, no ceiling"
             }
-            _ => Ok(()),
-        }
+            command if self.state.is_some() && !matches!(command, Command::List) => {
+                "--state goes with list alone"
+            }
+            command if self.now.is_some() && !matches!(command, Command::Table(_)) => {
+                "--now goes with table alone"
+            }
+            _ => return Ok(()),
+        };
+        Err(Trouble::usage(misfit))
     }
 }
 
@@ -182,7 +206,8 @@ fn command(words: &[OsString]) -> Result<Command, Trouble> {
     let (needed, what) = match name {
         "check" | "list" | "fields" => (2, "FILE"),
         "find" => (3, "FILE and UUID"),
-        "resave" => (3, "FILE and OUT"),
+        "resave" | "table" => (3, "FILE and OUT"),
+        "rows" => (2, "TABLE"),
         "replay" => (words.len().max(3), "STATE and one or more TRACEs"),
         "" => return Err(Trouble::usage("no command given")),
         _ => return Err(Trouble::usage(format!("there is no command {name}"))),
@@ -195,6 +220,8 @@ fn command(words: &[OsString]) -> Result<Command, Trouble> {
         "list" => Command::List,
         "fields" => Command::Fields,
         "find" => Command::Find(uuid(&words[2])?),
+        "table" => Command::Table((&words[2]).into()),
+        "rows" => Command::Rows,
         "replay" => Command::Replay(words[2..].iter().map(PathBuf::from).collect()),
         _ => Command::Resave((&words[2]).into()),
     })
@@ -213,7 +240,8 @@ impl Arguments {
             command,
             file: sorted.words.get(1).map(PathBuf::from).unwrap_or_default(),
             source: sorted.source()?,
-            ceiling: sorted.ceiling.as_ref().map_or(Ok(CEILING), number)?,
+            ceiling: number("--ceiling", &sorted.ceiling)?.unwrap_or(CEILING),
+            now: number("--now", &sorted.now)?,
             state: sorted.state.map(PathBuf::from),
         })
     }

@@ -3,7 +3,7 @@
 use crate::arguments::{Arguments, Command, HELP};
 use crate::secret::Secret;
 use crate::trouble::Trouble;
-use crate::{files, list, names, passphrase, progress, replay, show};
+use crate::{files, list, names, passphrase, progress, replay, show, table};
 use std::fmt::Write;
 use std::path::Path;
 use talcfeather::{Cursor, Field, Opened, Parts, Refusal, Work, AROUND, END, FILE_MAX};
@@ -16,6 +16,11 @@ pub fn run(arguments: &Arguments) -> Result<Said, Trouble> {
         Command::Help => HELP.to_string(),
         Command::Version => concat!("talc ", env!("CARGO_PKG_VERSION"), "\n").into(),
         Command::Replay(traces) => return replay::run(&arguments.file, traces),
+        Command::Rows => table::rows(&arguments.file)?,
+        Command::Table(out) => {
+            table::may_write(out)?;
+            open(arguments)?
+        }
         _ => open(arguments)?,
     };
     Ok((output, Ok(())))
@@ -42,6 +47,7 @@ fn open(arguments: &Arguments) -> Result<String, Trouble> {
         Command::Find(uuid) => {
             find(opened.body, uuid).map_err(refused)?.ok_or_else(|| Trouble::no_record(path))
         }
+        Command::Table(out) => table::export(path, &opened, arguments.now, out),
         Command::Resave(out) => resave(&file, &passphrase.0, &opened, out),
         _ => fields(opened.body).map_err(refused),
     }

@@ -3,7 +3,7 @@
 use crate::trouble::Trouble;
 use std::ffi::OsString;
 use std::fs::{File, OpenOptions};
-use std::io::{self, Read, Write};
+use std::io::{self, ErrorKind, Read, Write};
 use std::os::unix::fs::OpenOptionsExt;
 use std::path::{Path, PathBuf};
 
@@ -15,6 +15,20 @@ pub fn read(path: &Path, limit: usize) -> Result<Vec<u8>, Trouble> {
         .and_then(|file| file.take(limit as u64).read_to_end(&mut bytes))
         .map_err(|error| Trouble::input(path, error))?;
     Ok(bytes)
+}
+
+/// Whether there is a file that may be replaced, or none. What is no regular file is not replaced, and
+/// not what a link leads to either: the new file would take the link's place.
+pub fn replaceable(path: &Path) -> Result<bool, Trouble> {
+    match std::fs::symlink_metadata(path) {
+        Ok(found) if found.is_file() => Ok(true),
+        Ok(_) => {
+            let message = format!("{}: is no regular file, and is not replaced", path.display());
+            Err(Trouble::Create(message))
+        }
+        Err(error) if error.kind() == ErrorKind::NotFound => Ok(false),
+        Err(error) => Err(Trouble::input(path, error)),
+    }
 }
 
 /// A name beside the path that this process alone uses.

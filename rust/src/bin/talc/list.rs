@@ -1,12 +1,9 @@
 //! `talc list`: a line a login.
 
+use crate::columns::{self, Line};
 use crate::commands::each_field;
 use crate::show;
-use std::io::IsTerminal;
 use talcfeather::{Cursor, Field, Refusal, Value, END};
-
-/// The columns of a line: title, user, group, expiry; and with a state, whether it is cancelled.
-type Line = Vec<String>;
 
 /// What is taken of a record; of several fields of one type the first counts.
 #[derive(Default)]
@@ -52,6 +49,7 @@ fn shown(field: &Field, body: &[u8]) -> String {
     }
 }
 
+/// Title, user, group, expiry; and with a state, whether it is cancelled.
 fn line(login: Login, state: Option<&[u8]>) -> Result<Line, Refusal> {
     let mut line = login.columns.map(Option::unwrap_or_default).to_vec();
     if let Some(state) = state {
@@ -61,33 +59,8 @@ fn line(login: Login, state: Option<&[u8]>) -> Result<Line, Refusal> {
     Ok(line)
 }
 
-/// Aligned on a terminal, else with tabs between.
 pub fn lines(body: &[u8], state: Option<&[u8]>) -> Result<String, Refusal> {
     let logins = logins(body)?.into_iter();
     let lines: Vec<Line> = logins.map(|login| line(login, state)).collect::<Result<_, _>>()?;
-    if !std::io::stdout().is_terminal() {
-        return Ok(lines.iter().map(|line| line.join("\t") + "\n").collect());
-    }
-    let mut widths = [0; 5];
-    for (i, text) in lines.iter().flat_map(|line| line.iter().enumerate()) {
-        widths[i] = widths[i].max(text.chars().count() + 2);
-    }
-    Ok(lines.iter().map(|line| aligned(line, widths)).collect())
-}
-
-fn aligned(line: &Line, widths: [usize; 5]) -> String {
-    let columns = line.iter().zip(widths);
-    let line: String = columns.map(|(text, width)| format!("{text:width$}")).collect();
-    line.trim_end().to_string() + "\n"
-}
-
-#[test]
-fn alignment() {
-    let line = |texts: [&str; 5]| texts.map(String::from).to_vec();
-    let widths = [9, 6, 2, 4, 11];
-    assert_eq!(
-        aligned(&line(["Lathe 3", "ä", "", "x", "cancelled"]), widths),
-        "Lathe 3  ä       x   cancelled\n"
-    );
-    assert_eq!(aligned(&line(["Lathe 3", "ä", "", "", ""]), widths), "Lathe 3  ä\n");
+    Ok(columns::told(&lines))
 }

@@ -1,6 +1,8 @@
-//! `talc`: reads Password Safe V3 files and replays traces at a terminal, over the proved library.
+//! `talc`: reads Password Safe V3 files, replays traces and exports tables at a terminal, over the
+//! proved library.
 
 mod arguments;
+mod columns;
 mod commands;
 mod files;
 mod list;
@@ -10,6 +12,7 @@ mod progress;
 mod replay;
 mod secret;
 mod show;
+mod table;
 mod trouble;
 
 use arguments::Arguments;

@@ -4,7 +4,6 @@ use crate::commands::Said;
 use crate::trouble::Trouble;
 use crate::{files, show};
 use std::collections::BTreeSet;
-use std::io::ErrorKind;
 use std::path::{Path, PathBuf};
 use talcfeather::{Refusal, STATE_SIZE, STATE_UUIDS, TRACE_RECORD};
 
@@ -20,16 +19,7 @@ pub fn load(path: &Path) -> Result<Vec<u8>, Trouble> {
 
 /// The state of a file that may be replaced; none where there is no file yet.
 fn stored(path: &Path) -> Result<Option<Vec<u8>>, Trouble> {
-    match std::fs::symlink_metadata(path) {
-        Ok(found) if found.is_file() => load(path).map(Some),
-        // Not what a link leads to either: the new file would take the link's place.
-        Ok(_) => {
-            let message = format!("{}: is no regular file, and is not replaced", path.display());
-            Err(Trouble::Create(message))
-        }
-        Err(error) if error.kind() == ErrorKind::NotFound => Ok(None),
-        Err(error) => Err(Trouble::input(path, error)),
-    }
+    files::replaceable(path)?.then(|| load(path)).transpose()
 }
 
 fn trace(path: &PathBuf) -> Result<Vec<u8>, Trouble> {

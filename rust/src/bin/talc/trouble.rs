@@ -14,9 +14,11 @@ pub enum Trouble {
     NoState(String, usize),
     /// 16: so many of so many traces were refused.
     Traces(usize, usize),
+    /// 18: a login or a row that the table does not hold, in words.
+    Table(String),
     /// 64: the arguments.
     Usage(String),
-    /// 66: a safe, passphrase, state or trace can't be read.
+    /// 66: a safe, passphrase, state, trace or table can't be read.
     Input(String),
     /// 67: no record has that UUID.
     NoRecord(String),
@@ -37,6 +39,10 @@ impl Trouble {
 
     pub fn no_state(path: &Path, length: usize) -> Trouble {
         Trouble::NoState(path.display().to_string(), length)
+    }
+
+    pub fn table(path: &Path, why: &str) -> Trouble {
+        Trouble::Table(format!("{}: refused, 18: {why}", path.display()))
     }
 
     pub fn usage(message: impl Into<String>) -> Trouble {
@@ -65,6 +71,7 @@ impl Trouble {
             Trouble::Refused(_, refusal) => u8::try_from(refusal.number()).unwrap_or(70),
             Trouble::NoState(..) => 19,
             Trouble::Traces(..) => 16,
+            Trouble::Table(_) => 18,
             Trouble::Usage(_) => 64,
             Trouble::Input(_) => 66,
             Trouble::NoRecord(_) => 67,
@@ -118,7 +125,8 @@ impl fmt::Display for Trouble {
             }
             Trouble::Usage(message) => write!(f, "{message}; try talc --help"),
             Trouble::GivenUp => write!(f, "given up"),
-            Trouble::Input(message)
+            Trouble::Table(message)
+            | Trouble::Input(message)
             | Trouble::NoRecord(message)
             | Trouble::Differs(message)
             | Trouble::Create(message)

@@ -1,0 +1,77 @@
+//! Export, import and row in memory between pages that can't be touched: nothing is read beyond what
+//! is lent, and nothing is written to what is lent for reading.
+
+mod common;
+
+use common::bodies::damage;
+use common::calls::*;
+use common::fenced::Fenced;
+use common::tables::*;
+use peer::random::Random;
+use talcfeather::raw;
+
+fn export(body: &[u8], now: u32, output: &[u8], before: bool) -> Outcome {
+    let body = Fenced::shown(body, before);
+    let output = Fenced::new(output, before);
+    let answer = Fenced::new(&[0xEE; 24], before);
+    let number = unsafe {
+        let (start, length) = (output.pointer(), output.len());
+        raw::talc_export(body.pointer(), body.len(), now, start, length, answer.pointer().cast())
+    };
+    Outcome { number, answer: answer.content(), memory: output.content() }
+}
+
+fn import(table: &[u8], before: bool) -> Outcome {
+    let table = Fenced::shown(table, before);
+    let answer = Fenced::new(&[0xEE; 16], before);
+    let number = unsafe { raw::talc_import(table.pointer(), table.len(), answer.pointer().cast()) };
+    Outcome { number, answer: answer.content(), memory: Vec::new() }
+}
+
+fn row(table: &[u8], number: usize, before: bool) -> Outcome {
+    let table = Fenced::shown(table, before);
+    let answer = Fenced::new(&[0xEE; 56], before);
+    let number =
+        unsafe { raw::talc_row(table.pointer(), table.len(), number, answer.pointer().cast()) };
+    Outcome { number, answer: answer.content(), memory: Vec::new() }
+}
+
+#[test]
+fn bodies() {
+    let (random, mut met) = (&mut Random(1), Met::default());
+    while met.cases() < 2000 {
+        let now = any_now(random);
+        let logins = any_logins(random, now);
+        let mut body = body_of(random, &logins);
+        if random.one_in(3) {
+            damage(random, &mut body);
+        }
+        let room = 256 * logins.len();
+        let length = random.pick(&[room, room, room.saturating_sub(1)]);
+        let output = random.bytes(length);
+        for before in [true, false] {
+            let theirs = Export { body: &body, now, output: &output }.theirs();
+            met.same(export(&body, now, &output, before), theirs, (now, body.len()));
+        }
+    }
+    met.each_of(&[0, 3, 9, 18], 50);
+}
+
+/// Cut at every length, and whole.
+#[test]
+fn tables() {
+    let random = &mut Random(2);
+    let texts = [80, 80, 72].map(|length| text(random, length));
+    let full = stored(&[7; 16], [&texts[0], &texts[1], &texts[2]], -1);
+    let table = [full, stored(&[8; 16], [b"Lathe", b"", b"Floor"], NEVER)].concat();
+    for length in 0..=512 {
+        let table = &table[..length];
+        for before in [true, false] {
+            assert_eq!(import(table, before), import_theirs(table), "{length} bytes");
+            for number in [0, 1, 2, 3, usize::MAX] {
+                let theirs = row_theirs(table, number);
+                assert_eq!(row(table, number, before), theirs, "row {number} of {length} bytes");
+            }
+        }
+    }
+}
