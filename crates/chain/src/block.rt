@@ -1,4 +1,4 @@
-// One block in place, in either mode. t0 and t1 are the tables of q0 and q1, s is the vector S, and k has the subkeys.
+// One block in place, in either mode. g0 to g3 are the tables of g, and k has the subkeys.
 use super::Mode;
 use twofish::Block;
 use twofish::blocks::bytes;
@@ -7,9 +7,10 @@ use twofish::cipher;
 use words::slices::copy;
 ghost use mathlib.Core.Path.{_≡_};
 ghost use Rattle.words.specs.Numbers.{Bytes};
-ghost use Rattle.twofish.specs.Twofish.{blockOf};
+ghost use Rattle.words.specs.Slices.{copied};
+ghost use Rattle.twofish.specs.Twofish.{blockOf, blockBytes};
 ghost use Rattle.twofish.specs.Tabled.{tabledEncrypt, tabledDecrypt};
-ghost use Rattle.chain.specs.Blocks.{xorBlock, wordsE, wordsD, EncryptedBlock, DecryptedBlock};
+ghost use Rattle.chain.specs.Blocks.{xorBlock, chained as chainedOf, EncryptedBlock, DecryptedBlock};
 
 // The block that the first one is chained to. That an array holds bytes is known where it is lent as a slice: so it is said here.
 pub fn start(iv: &[u8]) -> Block
@@ -29,74 +30,57 @@ fn xor(x: Block, y: Block) -> Block
     }
 }
 
-fn encrypt_words(
-    mode: Mode,
-    t0: &[u8; 256],
-    t1: &[u8; 256],
-    s: &[u8; 16],
-    k: &[u32; 40],
-    prev: Block,
-    x: Block,
-) -> Block
-    ensures { λ r. ⌜ r ≡ wordsE mode (tabledEncrypt (now (t0 .entry)) (now (t1 .entry)) (now (s .entry)) (now (k .entry))) prev x ⌝ }
+// A text with the cipher block before it, as the mode has it.
+pub fn chained(mode: Mode, prev: Block, x: Block) -> Block
+    ensures { λ r. ⌜ r ≡ chainedOf mode prev x ⌝ }
 {
     match mode {
-        Mode::Ecb => cipher::encrypt(t0, t1, s, k, x),
-        Mode::Cbc => cipher::encrypt(t0, t1, s, k, xor(x, prev)),
+        Mode::Ecb => x,
+        Mode::Cbc => xor(x, prev),
     }
 }
 
-fn decrypt_words(
-    mode: Mode,
-    t0: &[u8; 256],
-    t1: &[u8; 256],
-    s: &[u8; 16],
-    k: &[u32; 40],
-    prev: Block,
-    x: Block,
-) -> Block
-    ensures { λ r. ⌜ r ≡ wordsD mode (tabledDecrypt (now (t0 .entry)) (now (t1 .entry)) (now (s .entry)) (now (k .entry))) prev x ⌝ }
+pub fn store(b: &mut [u8], x: Block)
+    ensures { λ _. ⌜ now (b .exit) ≡ copied (now (b .entry)) (blockBytes x) ⌝ }
 {
-    match mode {
-        Mode::Ecb => cipher::decrypt(t0, t1, s, k, x),
-        Mode::Cbc => xor(cipher::decrypt(t0, t1, s, k, x), prev),
-    }
+    let t = bytes(x);
+    copy(b, &t);
 }
 
 // Both hand on the cipher block, which the next block is chained to.
 pub fn encrypt(
     mode: Mode,
-    t0: &[u8; 256],
-    t1: &[u8; 256],
-    s: &[u8; 16],
+    g0: &[u32; 256],
+    g1: &[u32; 256],
+    g2: &[u32; 256],
+    g3: &[u32; 256],
     k: &[u32; 40],
     prev: Block,
     b: &mut [u8],
 ) -> Block
-    ensures { λ r. ⌜ EncryptedBlock mode (tabledEncrypt (now (t0 .entry)) (now (t1 .entry)) (now (s .entry)) (now (k .entry)))
+    ensures { λ r. ⌜ EncryptedBlock mode (tabledEncrypt (now (g0 .entry)) (now (g1 .entry)) (now (g2 .entry)) (now (g3 .entry)) (now (k .entry)))
         prev (now (b .entry)) (now (b .exit)) r ⌝ }
 {
-    let x = encrypt_words(mode, t0, t1, s, k, prev, load(b));
-    let t = bytes(x);
-    copy(b, &t);
+    let x = cipher::encrypt(g0, g1, g2, g3, k, chained(mode, prev, load(b)));
+    store(b, x);
     x
 }
 
 pub fn decrypt(
     mode: Mode,
-    t0: &[u8; 256],
-    t1: &[u8; 256],
-    s: &[u8; 16],
+    g0: &[u32; 256],
+    g1: &[u32; 256],
+    g2: &[u32; 256],
+    g3: &[u32; 256],
     k: &[u32; 40],
     prev: Block,
     b: &mut [u8],
 ) -> Block
-    ensures { λ r. ⌜ DecryptedBlock mode (tabledDecrypt (now (t0 .entry)) (now (t1 .entry)) (now (s .entry)) (now (k .entry)))
+    ensures { λ r. ⌜ DecryptedBlock mode (tabledDecrypt (now (g0 .entry)) (now (g1 .entry)) (now (g2 .entry)) (now (g3 .entry)) (now (k .entry)))
         prev (now (b .entry)) (now (b .exit)) r ⌝ }
 {
     let x = load(b);
-    let y = decrypt_words(mode, t0, t1, s, k, prev, x);
-    let t = bytes(y);
-    copy(b, &t);
+    let y = chained(mode, prev, cipher::decrypt(g0, g1, g2, g3, k, x));
+    store(b, y);
     x
 }

@@ -1,6 +1,8 @@
 // ECB and CBC over Twofish, in lent memory of any whole number of blocks. A length that is no multiple of 16 is refused:
 // the memory stays, and the count is handed on as it came.
+mod beside;
 mod block;
+mod blocks;
 mod memory;
 
 ghost use mathlib.Core.Path.{_≡_};

@@ -5,3 +5,4 @@ pub mod Cipher
 pub mod Twofish
 pub mod Columns
 pub mod Tabled
+pub mod Beside

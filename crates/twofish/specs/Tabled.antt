@@ -1,16 +1,31 @@
--- The cipher as the code has it, over four lists: t0 and t1 for the tables of q0 and q1, s for the vector S, k for the subkeys.
+-- The cipher as the code has it, over five lists: g0 to g3 for the tables of g, k for the subkeys.
 -- With the lists that a key makes it is Twofish under that key.
 use Prim.Native.Nat.{ℕ}
+use mathlib.Core.Bool.{cond}
 use mathlib.Core.List.{List}
-use Rattle.words.specs.Table.{at}
-use Rattle.twofish.specs.Key.{h}
+use lib.Dec.{eqb}
+use Rattle.words.specs.Numbers.{byteOf}
+use Rattle.words.specs.Table.{at, table}
+use Rattle.twofish.specs.Field.{_⊕_}
+use Rattle.twofish.specs.Key.{y0, y1, y2, y3, mds}
 use Rattle.twofish.specs.Cipher.{encrypt, decrypt}
 use Rattle.twofish.specs.declared.Block.{Block}
 
-module _ (t0 t1 s : List ℕ) where
-  -- g is h with the vector S
+module _ (q0 q1 : ℕ → ℕ) (l : List ℕ) where
+  -- what byte j of a word, x, adds to h: column j of the MDS matrix times y of x
+  unfoldable pub entry : ℕ → ℕ → ℕ
+  entry j x =
+      cond (eqb j 0) (mds (y0 q0 q1 l x) 0 0 0)
+      (cond (eqb j 1) (mds 0 (y1 q0 q1 l x) 0 0) (cond (eqb j 2) (mds 0 0 (y2 q0 q1 l x) 0) (mds 0 0 0 (y3 q0 q1 l x))))
+
+  -- table j, one entry for each byte
+  unfoldable pub filled : ℕ → List ℕ
+  filled j = table 256 (entry j)
+
+module _ (g0 g1 g2 g3 : List ℕ) where
+  -- g by one look-up for each byte of a word
   unfoldable pub tabledG : ℕ → ℕ
-  tabledG = h (at t0) (at t1) s
+  tabledG x = at g0 (byteOf 0 x) ⊕ at g1 (byteOf 1 x) ⊕ at g2 (byteOf 2 x) ⊕ at g3 (byteOf 3 x)
 
   unfoldable pub tabledEncrypt : List ℕ → Block → Block
   tabledEncrypt k = encrypt tabledG (at k)

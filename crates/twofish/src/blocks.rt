@@ -6,6 +6,7 @@ use super::key::box_key;
 use super::key::subkeys;
 use super::q0;
 use super::q1;
+use super::tables::fill;
 use words::numbers::byte;
 use words::numbers::low;
 ghost use mathlib.Core.Path.{_≡_};
@@ -24,6 +25,9 @@ fn word(b: &[u8], i: usize) -> u32
     requires { ⌜ i < 16 ⌝ }
     ensures { λ r. ⌜ r ≡ wordAt (now (b .entry)) i ⌝ }
 {
+    if i + 4 <= b.len() {
+        return low(b[i], b[i + 1], b[i + 2], b[i + 3]);
+    }
     low(at(b, i), at(b, i + 1), at(b, i + 2), at(b, i + 3))
 }
 
@@ -70,7 +74,11 @@ pub fn encrypt_block(m: &[u8; 32], b: &[u8]) -> [u8; 16]
     let t1 = q1::table();
     let s = box_key(m);
     let k = subkeys(&t0, &t1, m);
-    bytes(encrypt(&t0, &t1, &s, &k, load(b)))
+    let g0 = fill(&t0, &t1, &s, 0);
+    let g1 = fill(&t0, &t1, &s, 1);
+    let g2 = fill(&t0, &t1, &s, 2);
+    let g3 = fill(&t0, &t1, &s, 3);
+    bytes(encrypt(&g0, &g1, &g2, &g3, &k, load(b)))
 }
 
 pub fn decrypt_block(m: &[u8; 32], b: &[u8]) -> [u8; 16]
@@ -80,5 +88,9 @@ pub fn decrypt_block(m: &[u8; 32], b: &[u8]) -> [u8; 16]
     let t1 = q1::table();
     let s = box_key(m);
     let k = subkeys(&t0, &t1, m);
-    bytes(decrypt(&t0, &t1, &s, &k, load(b)))
+    let g0 = fill(&t0, &t1, &s, 0);
+    let g1 = fill(&t0, &t1, &s, 1);
+    let g2 = fill(&t0, &t1, &s, 2);
+    let g3 = fill(&t0, &t1, &s, 3);
+    bytes(decrypt(&g0, &g1, &g2, &g3, &k, load(b)))
 }

@@ -19,7 +19,7 @@ fn sub(t: &[u8; 256], x: u8) -> u8
     t[x as usize]
 }
 
-fn y0(t0: &[u8; 256], t1: &[u8; 256], l: &[u8; 16], x: u8) -> u8
+pub fn y0(t0: &[u8; 256], t1: &[u8; 256], l: &[u8; 16], x: u8) -> u8
     ensures { λ r. ⌜ r ≡ y0Of (at (now (t0 .entry))) (at (now (t1 .entry))) (now (l .entry)) x ⌝ }
 {
     sub(
@@ -28,7 +28,7 @@ fn y0(t0: &[u8; 256], t1: &[u8; 256], l: &[u8; 16], x: u8) -> u8
     )
 }
 
-fn y1(t0: &[u8; 256], t1: &[u8; 256], l: &[u8; 16], x: u8) -> u8
+pub fn y1(t0: &[u8; 256], t1: &[u8; 256], l: &[u8; 16], x: u8) -> u8
     ensures { λ r. ⌜ r ≡ y1Of (at (now (t0 .entry))) (at (now (t1 .entry))) (now (l .entry)) x ⌝ }
 {
     sub(
@@ -37,7 +37,7 @@ fn y1(t0: &[u8; 256], t1: &[u8; 256], l: &[u8; 16], x: u8) -> u8
     )
 }
 
-fn y2(t0: &[u8; 256], t1: &[u8; 256], l: &[u8; 16], x: u8) -> u8
+pub fn y2(t0: &[u8; 256], t1: &[u8; 256], l: &[u8; 16], x: u8) -> u8
     ensures { λ r. ⌜ r ≡ y2Of (at (now (t0 .entry))) (at (now (t1 .entry))) (now (l .entry)) x ⌝ }
 {
     sub(
@@ -46,7 +46,7 @@ fn y2(t0: &[u8; 256], t1: &[u8; 256], l: &[u8; 16], x: u8) -> u8
     )
 }
 
-fn y3(t0: &[u8; 256], t1: &[u8; 256], l: &[u8; 16], x: u8) -> u8
+pub fn y3(t0: &[u8; 256], t1: &[u8; 256], l: &[u8; 16], x: u8) -> u8
     ensures { λ r. ⌜ r ≡ y3Of (at (now (t0 .entry))) (at (now (t1 .entry))) (now (l .entry)) x ⌝ }
 {
     sub(

@@ -1,9 +1,9 @@
--- `twofish::cipher::whiten` meets its contract: by its definition.
+-- `twofish::round::whiten` meets its contract: by its definition.
 use Rattle.twofish.specs.Cipher.{whiten}
 use mathlib.Core.Path.{refl}
 use borrow.Author.Needs.{needs}
-use Rattle.twofish.proofs.cipher.whiten.Statement.{statement}
-use Rattle.twofish.proofs.cipher.whiten.Tie as tie
+use Rattle.twofish.proofs.round.whiten.Statement.{statement}
+use Rattle.twofish.proofs.round.whiten.Tie as tie
 
 returns : tie.Need-returns
 unfolding whiten

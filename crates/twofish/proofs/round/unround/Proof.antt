@@ -1,8 +1,8 @@
--- `twofish::cipher::unround` meets its contract: as its definition goes.
+-- `twofish::round::unround` meets its contract: as its definition goes.
 use Rattle.twofish.specs.Cipher.{F0, F1, unround}
 use borrow.Author.Needs.{needs}
-use Rattle.twofish.proofs.cipher.unround.Statement.{statement}
-use Rattle.twofish.proofs.cipher.unround.Tie as tie
+use Rattle.twofish.proofs.round.unround.Statement.{statement}
+use Rattle.twofish.proofs.round.unround.Tie as tie
 
 returns : tie.Need-returns
 unfolding unround F0 F1

@@ -1,8 +1,8 @@
--- `twofish::cipher::g` meets its contract: it is h with the vector S.
+-- `twofish::round::g` meets its contract: it is h with the vector S.
 use Rattle.twofish.specs.Tabled.{tabledG}
 use borrow.Author.Needs.{needs}
-use Rattle.twofish.proofs.cipher.g.Statement.{statement}
-use Rattle.twofish.proofs.cipher.g.Tie as tie
+use Rattle.twofish.proofs.round.g.Statement.{statement}
+use Rattle.twofish.proofs.round.g.Tie as tie
 
 returns : tie.Need-returns
 unfolding tabledG

@@ -1,8 +1,8 @@
--- `twofish::cipher::round` meets its contract: as its definition goes.
+-- `twofish::round::round` meets its contract: as its definition goes.
 use Rattle.twofish.specs.Cipher.{F0, F1, round}
 use borrow.Author.Needs.{needs}
-use Rattle.twofish.proofs.cipher.round.Statement.{statement}
-use Rattle.twofish.proofs.cipher.round.Tie as tie
+use Rattle.twofish.proofs.round.round.Statement.{statement}
+use Rattle.twofish.proofs.round.round.Tie as tie
 
 returns : tie.Need-returns
 unfolding round F0 F1

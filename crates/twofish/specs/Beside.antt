@@ -1,0 +1,7 @@
+-- Three blocks side by side.
+use Rattle.twofish.specs.declared.Block.{Block}
+use Rattle.twofish.specs.declared.Three.{Three}
+
+-- F of each
+abbrev pub each : (Block → Block) → Three → Three
+each F t = record { x = F (t .x); y = F (t .y); z = F (t .z) }
