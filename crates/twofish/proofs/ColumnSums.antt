@@ -4,8 +4,8 @@ use mathlib.Core.Path.{_≡_, refl, sym, ap, ap₂, _∙_}
 use mathlib.Core.List.{[], _∷_}
 use Prim.Native.Nat.{ℕ, _+_, _*_, _<_}
 use native.Mathlib.Omega.{arith}
-use lib.Bits.{xor-block, xor-lt}
-use lib.Dec.{ltb, ltb→lt}
+use lib.Bits.{xor-block, xor-lt, xor-zero-l, xor-zero-r}
+use lib.Dec.{ltb, ltb→lt, lit<}
 use Rattle.words.specs.Numbers.{numberLow}
 use Rattle.words.proofs.NumberLaws.{low-word}
 use Rattle.twofish.specs.Field.{_⊕_, gf, times, twice}
@@ -76,3 +76,20 @@ columns w x y z hw hx hy hz =
     (xor-lt 8 (w ⊕ n x) (m y) (xor-lt 8 w (n x) hw x2) y1) (xor-lt 8 (m w ⊕ n x) (n y) (xor-lt 8 (m w) (n x) w1 x2) y2)
     (xor-lt 8 (n w ⊕ m x) y (xor-lt 8 (n w) (m x) w2 x1) hy) z1 hz z2
     ∙ sym (rw (is-1 w hw, is-1 x hx, is-1 y hy, is-1 z hz) refl)
+
+-- one column alone is the product with zeros elsewhere
+pub only0 : (y : ℕ) → y < 256 → col0 y ≡ mds y 0 0 0
+unfolding col1 col2 col3 gf times twice numberLow
+only0 y h = sym (xor-zero-r _ ∙ xor-zero-r _ ∙ xor-zero-r _) ∙ columns y 0 0 0 h (lit< tt) (lit< tt) (lit< tt)
+
+pub only1 : (y : ℕ) → y < 256 → col1 y ≡ mds 0 y 0 0
+unfolding col0 col2 col3 gf times twice numberLow
+only1 y h = sym (xor-zero-r _ ∙ xor-zero-r _ ∙ xor-zero-l _) ∙ columns 0 y 0 0 (lit< tt) h (lit< tt) (lit< tt)
+
+pub only2 : (y : ℕ) → y < 256 → col2 y ≡ mds 0 0 y 0
+unfolding col0 col1 col3 gf times twice numberLow
+only2 y h = sym (xor-zero-r _ ∙ xor-zero-l _) ∙ columns 0 0 y 0 (lit< tt) (lit< tt) h (lit< tt)
+
+pub only3 : (y : ℕ) → y < 256 → col3 y ≡ mds 0 0 0 y
+unfolding col0 col1 col2 gf times twice numberLow
+only3 y h = sym (xor-zero-l _) ∙ columns 0 0 0 y (lit< tt) (lit< tt) (lit< tt) h

@@ -1,18 +1,26 @@
--- With the tables of q0 and q1, the vector S and the subkeys of a key, the cipher of the code is Twofish under that key: by what each of them is.
-use mathlib.Core.Path.{_≡_, refl}
+-- With the subkeys of a key, and the tables of g that its vector S fills, the cipher of the code is Twofish under that key: the look-ups are g.
+use mathlib.Core.Path.{_≡_, ap}
 use mathlib.Core.List.{List}
 use Prim.Native.Nat.{ℕ}
 use Rattle.words.specs.Table.{at}
-use Rattle.twofish.specs.Q.{table0, table1}
+use Rattle.twofish.specs.Q.{table0, table1, q0, q1}
 use Rattle.twofish.specs.Key.{boxKey, subkeys, g}
-use Rattle.twofish.specs.Tabled.{tabledG, tabledEncrypt, tabledDecrypt}
+use Rattle.twofish.specs.Cipher.{encrypt, decrypt}
+use Rattle.twofish.specs.Tabled.{filled, tabledG, tabledEncrypt, tabledDecrypt}
 use Rattle.twofish.specs.Twofish.{encryptWords, decryptWords}
+use Rattle.twofish.proofs.Lookups.{looked-up}
 
-module _ (m : List ℕ) {t0 t1 s k : List ℕ} (p : t0 ≡ table0) (q : t1 ≡ table1) (b : s ≡ boxKey m) (w : k ≡ subkeys (at t0) (at t1) m) where
-  pub encrypts : tabledEncrypt t0 t1 s k ≡ encryptWords m
-  unfolding tabledEncrypt tabledG encryptWords g
-  encrypts = rw (w, b, p, q) refl
+module _ (m : List ℕ) {t0 t1 s k g0 g1 g2 g3 : List ℕ} (p : t0 ≡ table0) (q : t1 ≡ table1) (b : s ≡ boxKey m)
+    (w : k ≡ subkeys (at t0) (at t1) m) (e0 : g0 ≡ filled (at t0) (at t1) s 0) (e1 : g1 ≡ filled (at t0) (at t1) s 1)
+    (e2 : g2 ≡ filled (at t0) (at t1) s 2) (e3 : g3 ≡ filled (at t0) (at t1) s 3) where
+  is-g : tabledG g0 g1 g2 g3 ≡ g q0 q1 m
+  unfolding g
+  is-g = rw (e0, e1, e2, e3, b, p, q) (looked-up (boxKey m))
 
-  pub decrypts : tabledDecrypt t0 t1 s k ≡ decryptWords m
-  unfolding tabledDecrypt tabledG decryptWords g
-  decrypts = rw (w, b, p, q) refl
+  pub encrypts : tabledEncrypt g0 g1 g2 g3 k ≡ encryptWords m
+  unfolding tabledEncrypt encryptWords
+  encrypts = rw (w, p, q) (ap (λ (f : ℕ → ℕ). encrypt f (at (subkeys q0 q1 m))) is-g)
+
+  pub decrypts : tabledDecrypt g0 g1 g2 g3 k ≡ decryptWords m
+  unfolding tabledDecrypt decryptWords
+  decrypts = rw (w, p, q) (ap (λ (f : ℕ → ℕ). decrypt f (at (subkeys q0 q1 m))) is-g)

@@ -1,0 +1,58 @@
+-- The rounds as the code goes: a round from the results of its calls, as its definition goes, and two rounds a turn, by taking one after another.
+use mathlib.Core.Path.{_≡_, sym, ap, ap₂, _∙_}
+use Prim.Native.Nat.{ℕ, suc, _+_, _-_, _*_, _%_, _^_, _<_}
+use native.Mathlib.Omega.{arith}
+use Rattle.words.specs.Rotation.{rotateLeft, rotateRight}
+use Rattle.twofish.specs.Field.{_⊕_}
+use Rattle.twofish.specs.Cipher.{F0, F1, round, unround, rounds}
+use Rattle.twofish.specs.declared.Block.{Block}
+
+module _ (g k : ℕ → ℕ) where
+  -- the two words of F, of the turned word b
+  module _ (r a b : ℕ) {y t z f : ℕ} (ey : y ≡ g a) (et : t ≡ rotateLeft 32 8 b) (ez : z ≡ g t) where
+    pub F0-made : f ≡ (y + z + k (2 * r + 8)) % 2 ^ 32 → f ≡ F0 g k r a b
+    unfolding F0
+    F0-made e = e ∙ ap₂ (λ (u v : ℕ). (u + v + k (2 * r + 8)) % 2 ^ 32) ey (ez ∙ ap g et)
+
+    pub F1-made : f ≡ (y + 2 * z + k (2 * r + 9)) % 2 ^ 32 → f ≡ F1 g k r a b
+    unfolding F1
+    F1-made e = e ∙ ap₂ (λ (u v : ℕ). (u + 2 * v + k (2 * r + 9)) % 2 ^ 32) ey (ez ∙ ap g et)
+
+  pub round-made : (r : ℕ) (x : Block) {f f′ p q : ℕ} → f ≡ F0 g k r (x .a) (x .b) → f′ ≡ F1 g k r (x .a) (x .b)
+      → p ≡ rotateRight 32 1 (x .c ⊕ f) → q ≡ rotateLeft 32 1 (x .d)
+      → record { a = p; b = q ⊕ f′; c = x .a; d = x .b } ≡ round g k r x
+  unfolding round
+  round-made r x e e′ ep eq =
+      λ i. record { a = (ep ∙ ap (λ (u : ℕ). rotateRight 32 1 (x .c ⊕ u)) e) i; b = ap₂ _⊕_ eq e′ i; c = x .a; d = x .b }
+
+  pub unround-made : (r : ℕ) (x : Block) {f f′ p q : ℕ} → f ≡ F0 g k r (x .c) (x .d) → f′ ≡ F1 g k r (x .c) (x .d)
+      → p ≡ rotateLeft 32 1 (x .a) → q ≡ rotateRight 32 1 (x .b ⊕ f′)
+      → record { a = x .c; b = x .d; c = p ⊕ f; d = q } ≡ unround g k r x
+  unfolding unround
+  unround-made r x e e′ ep eq =
+      λ i. record { a = x .c; b = x .d; c = ap₂ _⊕_ ep e i; d = (eq ∙ ap (λ (u : ℕ). rotateRight 32 1 (x .b ⊕ u)) e′) i }
+
+  -- two rounds more
+  pub two-more : (i : ℕ) (s : Block) {x y z : Block} → x ≡ rounds g k (2 * i) s → y ≡ round g k (2 * i) x
+      → z ≡ round g k (2 * i + 1) y → z ≡ rounds g k (2 * (i + 1)) s
+  unfolding rounds
+  two-more i s ex ey ez =
+      let p : suc (suc (2 * i)) ≡ 2 * (i + 1) = omega arith in
+      let q : 2 * i + 1 ≡ suc (2 * i) = omega arith in
+      ez ∙ ap₂ (round g k) q (ey ∙ ap (round g k (2 * i)) ex) ∙ ap (λ (n : ℕ). rounds g k n s) p
+
+-- two rounds less, of one block or of some side by side: U n is n rounds back, of which u takes one
+module _ {S : Type 0} (U u : ℕ → S → S) (none : (s : S) → U 0 s ≡ s) (one : (n : ℕ) (s : S) → U (suc n) s ≡ U n (u n s)) where
+  pub two-less : (i : ℕ) (x : S) {y s : S} → 0 < i → y ≡ u (2 * (i - 1)) (u (2 * (i - 1) + 1) x) → U (2 * i) x ≡ s
+      → U (2 * (i - 1)) y ≡ s
+  two-less i x h ey ex =
+      let n = 2 * (i - 1) in
+      let p : n + 1 ≡ suc n = omega arith in
+      let q : suc (suc n) ≡ 2 * i = omega arith in
+      ap (U n) (ey ∙ ap (λ (m : ℕ). u n (u m x)) p)
+      ∙ sym (one (suc n) x ∙ one n (u (suc n) x))
+      ∙ ap (λ (m : ℕ). U m x) q
+      ∙ ex
+
+  pub all-back : (i : ℕ) (x : S) {s : S} → 2 * i ≡ 0 → U (2 * i) x ≡ s → x ≡ s
+  all-back i x z ex = sym (none x) ∙ ap (λ (n : ℕ). U n x) (sym z) ∙ ex
