@@ -41,11 +41,11 @@ module _ (g k : ℕ → ℕ) where
       let q : 2 * i + 1 ≡ suc (2 * i) = omega arith in
       ez ∙ ap₂ (round g k) q (ey ∙ ap (round g k (2 * i)) ex) ∙ ap (λ (n : ℕ). rounds g k n s) p
 
--- two rounds less, of one block or of some side by side: U n is n rounds back, of which u takes one
-module _ {S : Type 0} (U u : ℕ → S → S) (none : (s : S) → U 0 s ≡ s) (one : (n : ℕ) (s : S) → U (suc n) s ≡ U n (u n s)) where
-  pub two-less : (i : ℕ) (x : S) {y s : S} → 0 < i → y ≡ u (2 * (i - 1)) (u (2 * (i - 1) + 1) x) → U (2 * i) x ≡ s
-      → U (2 * (i - 1)) y ≡ s
-  two-less i x h ey ex =
+-- n rounds back by U, each by u, of one block or of some side by side: two less a turn, until none is left
+module _ {S : Type 0} (U u : ℕ → S → S) where
+  pub two-less : ((n : ℕ) (x : S) → U (suc n) x ≡ U n (u n x)) → (i : ℕ) (x : S) {y s : S} → 0 < i
+      → y ≡ u (2 * (i - 1)) (u (2 * (i - 1) + 1) x) → U (2 * i) x ≡ s → U (2 * (i - 1)) y ≡ s
+  two-less one i x h ey ex =
       let n = 2 * (i - 1) in
       let p : n + 1 ≡ suc n = omega arith in
       let q : suc (suc n) ≡ 2 * i = omega arith in
@@ -54,5 +54,5 @@ module _ {S : Type 0} (U u : ℕ → S → S) (none : (s : S) → U 0 s ≡ s) (
       ∙ ap (λ (m : ℕ). U m x) q
       ∙ ex
 
-  pub all-back : (i : ℕ) (x : S) {s : S} → 2 * i ≡ 0 → U (2 * i) x ≡ s → x ≡ s
-  all-back i x z ex = sym (none x) ∙ ap (λ (n : ℕ). U n x) (sym z) ∙ ex
+  pub none-left : ((x : S) → U 0 x ≡ x) → (i : ℕ) (x : S) {s : S} → 0 ≡ 2 * i → U (2 * i) x ≡ s → x ≡ s
+  none-left none i x z ex = sym (none x) ∙ ap (λ (n : ℕ). U n x) z ∙ ex

@@ -10,10 +10,15 @@ use Rattle.twofish.proofs.blocks.encrypt_block.Tie as tie
 returns : tie.Need-returns
 unfolding encryptBlock
 returns c =
-    let tables = c .before .before .before .before .before .before .before in
-    let key = c .before .before .before .before .before .before .before .before .before .before .before .before .before .before .args .m .now in
+    let g3 = c .before .before .before .before .before .before .before .before in
+    let g2 = g3 .before .before .before .before in
+    let g1 = g2 .before .before .before .before in
+    let g0 = g1 .before .before .before .before in
+    let k = g0 .before .before .before .before in
+    let s = k .before .before .before in
+    let key = s .before .before .before .before .args .m .now in
     let x = c .before .before .load in
-    let same = encrypts key (tables .before .before .before .before .before .table .ensures) (tables .before .before .before .before .table2 .ensures) (tables .before .before .before .box-key .ensures) (tables .subkeys .ensures) in
+    let same = encrypts key (s .before .before .table .ensures) (s .before .table2 .ensures) (s .box-key .ensures) (k .subkeys .ensures) (g0 .fill .ensures) (g1 .fill2 .ensures) (g2 .fill3 .ensures) (g3 .fill4 .ensures) in
     c .bytes .ensures
     ∙ ap blockBytes (c .before .encrypt .ensures ∙ ap (λ (F : Block → Block). F (x .result)) same)
     ∙ ap (λ (z : Block). blockBytes (encryptWords key z)) (x .ensures)
@@ -22,6 +27,10 @@ pub encrypt-block-spec : {M : Type 1} → statement M
 encrypt-block-spec =
     tie.close
     (tie.spec
+    (λ c κs. search needs)
+    (λ c κs. search needs)
+    (λ c κs. search needs)
+    (λ c κs. search needs)
     (λ c κs. search needs)
     (λ c κs. search needs)
     (λ c κs. search needs)

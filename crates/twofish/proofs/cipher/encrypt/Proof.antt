@@ -1,39 +1,38 @@
--- `twofish::cipher::encrypt` meets its contract: after i turns the loop holds the definition's first i rounds.
+-- `twofish::cipher::encrypt` meets its contract: after i turns the loop holds the definition's first 2 i rounds.
 use Rattle.twofish.specs.Cipher.{rounds, encrypt}
 use Rattle.words.specs.Table.{at}
 use Rattle.twofish.specs.Tabled.{tabledG, tabledEncrypt}
+use Rattle.twofish.proofs.Steps.{two-more}
 use mathlib.Core.Path.{_≡_, refl, ap}
-use Prim.Native.Nat.{ℕ, _-_, _≤_}
+use Prim.Native.Nat.{ℕ, _-_, _*_, _≤_}
 use native.Mathlib.Omega.{arith}
-use native.Mathlib.Numerals.{add-one}
 use borrow.Author.Needs.{needs}
 use Rattle.twofish.proofs.cipher.encrypt.Statement.{statement}
 use Rattle.twofish.proofs.cipher.encrypt.Tie as tie
 
 abbrev Inv-loop : tie.InvT-loop
-Inv-loop t0 t1 s k y₀ i₀ y i = (i ≤ 16) × (y ≡ rounds (tabledG t0 t1 s) (at k) i y₀)
+Inv-loop g0 g1 g2 g3 k y₀ i₀ y i = (i ≤ 8) × (y ≡ rounds (tabledG g0 g1 g2 g3) (at k) (2 * i) y₀)
 
 abbrev μ-loop : tie.MeasureT-loop
-μ-loop t0 t1 s k y₀ i₀ y i = 16 - i
+μ-loop g0 g1 g2 g3 k y₀ i₀ y i = 8 - i
 
 loop-holds : tie.Need-loop-holds Inv-loop μ-loop
 unfolding rounds
 loop-holds c = (search needs, refl)
 
 loop-again : tie.Need-loop-again Inv-loop μ-loop
-unfolding rounds
 loop-again c =
-    let a = c .before .before .before .before .args in
-    let l = c .before .before .loop in
-    let g = tabledG (a .t0 .now) (a .t1 .now) (a .s .now) in
-    (search needs, cc (ap (λ (n : ℕ). rounds g (at (a .k .now)) n (c .before .before .before .whiten .result)) (add-one (l .i))))
+    let a = c .before .before .before .before .before .args in
+    let l = c .before .before .before .loop in
+    let g = tabledG (a .g0 .now) (a .g1 .now) (a .g2 .now) (a .g3 .now) in
+    (search needs, two-more g (at (a .k .now)) (l .i) (c .before .before .before .before .whiten .result) (l .inv .1) (c .before .round .ensures) (c .round2 .ensures))
 
 returns : tie.Need-returns Inv-loop μ-loop
 unfolding tabledEncrypt encrypt
 returns c =
     let a = c .before .before .before .before .before .args in
-    let g = tabledG (a .t0 .now) (a .t1 .now) (a .s .now) in
-    let e : c .before .before .before .loop .i ≡ 16 = omega arith in
+    let g = tabledG (a .g0 .now) (a .g1 .now) (a .g2 .now) (a .g3 .now) in
+    let e : 2 * c .before .before .before .loop .i ≡ 16 = omega arith in
     cc (ap (λ (n : ℕ). rounds g (at (a .k .now)) n (c .before .before .before .before .whiten .result)) e)
 
 pub encrypt-spec : {M : Type 1} → statement M
@@ -44,6 +43,10 @@ encrypt-spec =
     μ-loop
     (λ c κs. search needs)
     loop-holds
+    (λ c. search needs)
+    (λ c κs. search needs)
+    (λ c. search needs)
+    (λ c. search needs)
     (λ c κs. search needs)
     (λ c. search needs)
     (λ c. search needs)

@@ -1,4 +1,4 @@
--- `twofish::round::g` meets its contract: it is h with the vector S.
+-- `twofish::round::g` meets its contract: look-up by look-up.
 use Rattle.twofish.specs.Tabled.{tabledG}
 use borrow.Author.Needs.{needs}
 use Rattle.twofish.proofs.round.g.Statement.{statement}
@@ -6,7 +6,18 @@ use Rattle.twofish.proofs.round.g.Tie as tie
 
 returns : tie.Need-returns
 unfolding tabledG
-returns c = c .h .ensures
+returns c = cc
 
 pub g-spec : {M : Type 1} → statement M
-g-spec = tie.close (tie.spec (λ c κs. search needs) returns)
+g-spec =
+    tie.close
+    (tie.spec
+    (λ c κs. search needs)
+    (λ c κs. search needs)
+    (λ c κs. search needs)
+    (λ c κs. search needs)
+    (λ c κs. search needs)
+    (λ c κs. search needs)
+    (λ c κs. search needs)
+    (λ c κs. search needs)
+    returns)
