@@ -6,6 +6,8 @@ use Rattle.words.specs.Rotation.{rotateLeft, rotateRight}
 use Rattle.twofish.specs.Field.{_⊕_}
 use Rattle.twofish.specs.Cipher.{F0, F1, round, unround, rounds}
 use Rattle.twofish.specs.declared.Block.{Block}
+use Rattle.twofish.specs.declared.Three.{Three}
+use Rattle.twofish.specs.Beside.{each}
 
 module _ (g k : ℕ → ℕ) where
   -- the two words of F, of the turned word b
@@ -56,3 +58,8 @@ module _ {S : Type 0} (U u : ℕ → S → S) where
 
   pub none-left : ((x : S) → U 0 x ≡ x) → (i : ℕ) (x : S) {s : S} → 0 ≡ 2 * i → U (2 * i) x ≡ s → x ≡ s
   none-left none i x z ex = sym (none x) ∙ ap (λ (n : ℕ). U n x) z ∙ ex
+
+-- three blocks by the results of three calls
+pub each-made : (F : Block → Block) (t : Three) {x y z : Block} → x ≡ F (t .x) → y ≡ F (t .y) → z ≡ F (t .z)
+    → record { x = x; y = y; z = z } ≡ each F t
+each-made F t p q r = λ i. record { x = p i; y = q i; z = r i }

@@ -1,10 +1,10 @@
 -- `twofish::beside::decrypt` meets its contract: what is left of the 16 rounds back of each block, with 2 i still to go, ends in the same blocks.
-use Rattle.twofish.specs.Cipher.{unround, unrounds, decrypt}
+use Rattle.twofish.specs.Cipher.{whiten, swap, unround, unrounds, decrypt}
 use Rattle.words.specs.Table.{at}
 use Rattle.twofish.specs.Tabled.{tabledG, tabledDecrypt}
 use Rattle.twofish.specs.Beside.{each}
-use Rattle.twofish.proofs.Steps.{two-less, none-left}
-use mathlib.Core.Path.{_≡_, refl}
+use Rattle.twofish.proofs.Steps.{two-less, none-left, each-made}
+use mathlib.Core.Path.{_≡_, refl, ap, _∙_}
 use Prim.Native.Nat.{_*_, _≤_}
 use native.Mathlib.Omega.{arith}
 use borrow.Author.Needs.{needs}
@@ -32,11 +32,16 @@ loop-again c =
 returns : tie.Need-returns Inv-loop μ-loop
 unfolding tabledDecrypt decrypt unrounds
 returns c =
-    let a = c .before .before .before .before .before .before .before .before .args in
-    let l = c .before .before .before .before .loop in
+    let l = c .before .before .before .before in
+    let e = l .before .before .before in
+    let a = e .before .args in
     let g = tabledG (a .g0 .now) (a .g1 .now) (a .g2 .now) (a .g3 .now) in
     let k = at (a .k .now) in
-    cc (none-left (λ n. each (unrounds g k n)) (λ n. each (unround g k n)) (λ x. refl) (l .i) (l .u) (omega arith) (l .inv .1))
+    each-made (whiten k 0) (l .loop .u) (c .before .before .whiten .ensures) (c .before .whiten2 .ensures) (c .whiten3 .ensures)
+    ∙ ap (each (whiten k 0))
+    (none-left (λ n. each (unrounds g k n)) (λ n. each (unround g k n)) (λ x. refl) (l .loop .i) (l .loop .u) (omega arith) (l .loop .inv .1)
+    ∙ ap (each (unrounds g k 16))
+    (each-made (λ x. swap (whiten k 4 x)) (a .t) (e .enter .ensures) (l .before .before .enter2 .ensures) (l .before .enter3 .ensures)))
 
 pub decrypt-spec : {M : Type 1} → statement M
 decrypt-spec =
