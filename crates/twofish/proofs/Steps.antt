@@ -1,5 +1,5 @@
 -- The rounds as the code goes: a round from the results of its calls, as its definition goes, and two rounds a turn, by taking one after another.
-use mathlib.Core.Path.{_≡_, sym, ap, ap₂, _∙_}
+use mathlib.Core.Path.{_≡_, refl, sym, ap, ap₂, _∙_}
 use Prim.Native.Nat.{ℕ, suc, _+_, _-_, _*_, _%_, _^_, _<_}
 use native.Mathlib.Omega.{arith}
 use Rattle.words.specs.Rotation.{rotateLeft, rotateRight}
@@ -8,31 +8,31 @@ use Rattle.twofish.specs.Cipher.{F0, F1, round, unround, rounds}
 use Rattle.twofish.specs.declared.Block.{Block}
 use Rattle.twofish.specs.declared.Three.{Three}
 use Rattle.twofish.specs.Beside.{each}
+use Rattle.twofish.proofs.Rounds.{blocks}
 
 module _ (g k : ℕ → ℕ) where
-  -- the two words of F, of the turned word b
-  module _ (r a b : ℕ) {y t z f : ℕ} (ey : y ≡ g a) (et : t ≡ rotateLeft 32 8 b) (ez : z ≡ g t) where
-    pub F0-made : f ≡ (y + z + k (2 * r + 8)) % 2 ^ 32 → f ≡ F0 g k r a b
+  -- the two words of F, of words a and b, and a round each way with them
+  module _ (r a b : ℕ) {y t z f f′ : ℕ} (ey : y ≡ g a) (et : t ≡ rotateLeft 32 8 b) (ez : z ≡ g t)
+      (e : f ≡ (y + z + k (2 * r + 8)) % 2 ^ 32) (e′ : f′ ≡ (y + 2 * z + k (2 * r + 9)) % 2 ^ 32) where
+    F0-made : f ≡ F0 g k r a b
     unfolding F0
-    F0-made e = e ∙ ap₂ (λ (u v : ℕ). (u + v + k (2 * r + 8)) % 2 ^ 32) ey (ez ∙ ap g et)
+    F0-made = e ∙ ap₂ (λ (u v : ℕ). (u + v + k (2 * r + 8)) % 2 ^ 32) ey (ez ∙ ap g et)
 
-    pub F1-made : f ≡ (y + 2 * z + k (2 * r + 9)) % 2 ^ 32 → f ≡ F1 g k r a b
+    F1-made : f′ ≡ F1 g k r a b
     unfolding F1
-    F1-made e = e ∙ ap₂ (λ (u v : ℕ). (u + 2 * v + k (2 * r + 9)) % 2 ^ 32) ey (ez ∙ ap g et)
+    F1-made = e′ ∙ ap₂ (λ (u v : ℕ). (u + 2 * v + k (2 * r + 9)) % 2 ^ 32) ey (ez ∙ ap g et)
 
-  pub round-made : (r : ℕ) (x : Block) {f f′ p q : ℕ} → f ≡ F0 g k r (x .a) (x .b) → f′ ≡ F1 g k r (x .a) (x .b)
-      → p ≡ rotateRight 32 1 (x .c ⊕ f) → q ≡ rotateLeft 32 1 (x .d)
-      → record { a = p; b = q ⊕ f′; c = x .a; d = x .b } ≡ round g k r x
-  unfolding round
-  round-made r x e e′ ep eq =
-      λ i. record { a = (ep ∙ ap (λ (u : ℕ). rotateRight 32 1 (x .c ⊕ u)) e) i; b = ap₂ _⊕_ eq e′ i; c = x .a; d = x .b }
+    pub round-made : (c d : ℕ) {p q : ℕ} → p ≡ rotateRight 32 1 (c ⊕ f) → q ≡ rotateLeft 32 1 d
+        → record { a = p; b = q ⊕ f′; c = a; d = b } ≡ round g k r (record { a = a; b = b; c = c; d = d })
+    unfolding round
+    round-made c d ep eq =
+        blocks (ep ∙ ap (λ (u : ℕ). rotateRight 32 1 (c ⊕ u)) F0-made) (ap₂ _⊕_ eq F1-made) refl refl
 
-  pub unround-made : (r : ℕ) (x : Block) {f f′ p q : ℕ} → f ≡ F0 g k r (x .c) (x .d) → f′ ≡ F1 g k r (x .c) (x .d)
-      → p ≡ rotateLeft 32 1 (x .a) → q ≡ rotateRight 32 1 (x .b ⊕ f′)
-      → record { a = x .c; b = x .d; c = p ⊕ f; d = q } ≡ unround g k r x
-  unfolding unround
-  unround-made r x e e′ ep eq =
-      λ i. record { a = x .c; b = x .d; c = ap₂ _⊕_ ep e i; d = (eq ∙ ap (λ (u : ℕ). rotateRight 32 1 (x .b ⊕ u)) e′) i }
+    pub unround-made : (c d : ℕ) {p q : ℕ} → p ≡ rotateLeft 32 1 c → q ≡ rotateRight 32 1 (d ⊕ f′)
+        → record { a = a; b = b; c = p ⊕ f; d = q } ≡ unround g k r (record { a = c; b = d; c = a; d = b })
+    unfolding unround
+    unround-made c d ep eq =
+        blocks refl refl (ap₂ _⊕_ ep F0-made) (eq ∙ ap (λ (u : ℕ). rotateRight 32 1 (d ⊕ u)) F1-made)
 
   -- two rounds more
   pub two-more : (i : ℕ) (s : Block) {x y z : Block} → x ≡ rounds g k (2 * i) s → y ≡ round g k (2 * i) x

@@ -33,7 +33,7 @@ returns c =
     let a = c .before .before .before .before .before .args in
     let g = tabledG (a .g0 .now) (a .g1 .now) (a .g2 .now) (a .g3 .now) in
     let e : 2 * c .before .before .before .loop .i ≡ 16 = omega arith in
-    cc (ap (λ (n : ℕ). rounds g (at (a .k .now)) n (c .before .before .before .before .whiten .result)) e)
+    cc e
 
 pub encrypt-spec : {M : Type 1} → statement M
 encrypt-spec =
