@@ -1,5 +1,5 @@
 -- The product of the MDS matrix and four bytes is the sum of its columns, each times a byte: the sums of four bytes go byte by byte,
--- and the multiples by 1, 5B and EF are computed at all 256 bytes.
+-- and the multiples by 1, 5B and EF are computed at all 256 bytes. So one column alone is the product with zeros elsewhere.
 use mathlib.Core.Path.{_≡_, refl, sym, ap, ap₂, _∙_}
 use mathlib.Core.List.{[], _∷_}
 use Prim.Native.Nat.{ℕ, _+_, _*_, _<_}
@@ -77,7 +77,7 @@ columns w x y z hw hx hy hz =
     (xor-lt 8 (n w ⊕ m x) y (xor-lt 8 (n w) (m x) w2 x1) hy) z1 hz z2
     ∙ sym (rw (is-1 w hw, is-1 x hx, is-1 y hy, is-1 z hz) refl)
 
--- one column alone is the product with zeros elsewhere
+-- one column alone: the others, times 0, are 0
 pub only0 : (y : ℕ) → y < 256 → col0 y ≡ mds y 0 0 0
 unfolding col1 col2 col3 gf times twice numberLow
 only0 y h = sym (xor-zero-r _ ∙ xor-zero-r _ ∙ xor-zero-r _) ∙ columns y 0 0 0 h (lit< tt) (lit< tt) (lit< tt)

@@ -1,4 +1,4 @@
--- Each full table follows its rule from the four tables of 4 bits: the code's table by one computed test, then every entry by the table's place.
+-- Each full table follows its rule from the four tables of 4 bits, and gives bytes: by computed tests of its 256 entries, and then entry by entry.
 use mathlib.Core.Path.{_≡_, refl, sym, subst}
 use mathlib.Core.List.{List}
 use Prim.Native.Nat.{ℕ, _%_, _<_}

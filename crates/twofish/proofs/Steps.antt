@@ -43,15 +43,15 @@ module _ (g k : ℕ → ℕ) where
       let q : 2 * i + 1 ≡ suc (2 * i) = omega arith in
       ez ∙ ap₂ (round g k) q (ey ∙ ap (round g k (2 * i)) ex) ∙ ap (λ (n : ℕ). rounds g k n s) p
 
--- n rounds back by U, each by u, of one block or of some side by side: two less a turn, until none is left
-module _ {S : Type 0} (U u : ℕ → S → S) where
-  pub two-less : ((n : ℕ) (x : S) → U (suc n) x ≡ U n (u n x)) → (i : ℕ) (x : S) {y s : S} → 0 < i
-      → y ≡ u (2 * (i - 1)) (u (2 * (i - 1) + 1) x) → U (2 * i) x ≡ s → U (2 * (i - 1)) y ≡ s
-  two-less one i x h ey ex =
+-- n rounds back by U n, of one block or of some side by side: two less a turn, until none is left
+module _ {S : Type 0} (U : ℕ → S → S) where
+  pub two-less : (u : ℕ → S → S) → ((n : ℕ) (x : S) → U (suc n) x ≡ U n (u n x)) → (i : ℕ) (x : S) {y z s : S} → 0 < i
+      → y ≡ u (2 * (i - 1) + 1) x → z ≡ u (2 * (i - 1)) y → U (2 * i) x ≡ s → U (2 * (i - 1)) z ≡ s
+  two-less u one i x h ey ez ex =
       let n = 2 * (i - 1) in
       let p : n + 1 ≡ suc n = omega arith in
       let q : suc (suc n) ≡ 2 * i = omega arith in
-      ap (U n) (ey ∙ ap (λ (m : ℕ). u n (u m x)) p)
+      ap (U n) (ez ∙ ap (u n) (ey ∙ ap (λ (m : ℕ). u m x) p))
       ∙ sym (one (suc n) x ∙ one n (u (suc n) x))
       ∙ ap (λ (m : ℕ). U m x) q
       ∙ ex

@@ -26,7 +26,8 @@ loop-again c =
     let g = tabledG (a .g0 .now) (a .g1 .now) (a .g2 .now) (a .g3 .now) in
     let k = at (a .k .now) in (
       search needs,
-      two-less (λ n. each (unrounds g k n)) (λ n. each (unround g k n)) (λ n x. refl) (l .i) (l .u) (c .before .loop-test .taken) (c .two-back .ensures) (l .inv .1),
+      two-less (λ n. each (unrounds g k n)) (λ n. each (unround g k n)) (λ n x. refl) (l .i) (l .u)
+          (c .before .loop-test .taken) refl (c .two-back .ensures) (l .inv .1),
     )
 
 returns : tie.Need-returns Inv-loop μ-loop
@@ -39,7 +40,7 @@ returns c =
     let k = at (a .k .now) in
     each-made (whiten k 0) (l .loop .u) (c .before .before .whiten .ensures) (c .before .whiten2 .ensures) (c .whiten3 .ensures)
     ∙ ap (each (whiten k 0))
-    (none-left (λ n. each (unrounds g k n)) (λ n. each (unround g k n)) (λ x. refl) (l .loop .i) (l .loop .u) (omega arith) (l .loop .inv .1)
+    (none-left (λ n. each (unrounds g k n)) (λ x. refl) (l .loop .i) (l .loop .u) (omega arith) (l .loop .inv .1)
     ∙ ap (each (unrounds g k 16))
     (each-made (λ x. swap (whiten k 4 x)) (a .t) (e .enter .ensures) (l .before .before .enter2 .ensures) (l .before .enter3 .ensures)))
 

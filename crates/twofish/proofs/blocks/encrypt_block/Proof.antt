@@ -1,8 +1,6 @@
 -- `twofish::blocks::encrypt_block` meets its contract: the cipher on four words, with what the key makes of the tables.
-use Rattle.twofish.specs.Twofish.{blockBytes, encryptBlock, encryptWords}
-use Rattle.twofish.specs.declared.Block.{Block}
-use Rattle.twofish.proofs.Keyed.{encrypts}
-use mathlib.Core.Path.{ap, _∙_}
+use Rattle.twofish.specs.Twofish.{encryptBlock}
+use Rattle.twofish.proofs.Keyed.{encrypts, in-bytes}
 use borrow.Author.Needs.{needs}
 use Rattle.twofish.proofs.blocks.encrypt_block.Statement.{statement}
 use Rattle.twofish.proofs.blocks.encrypt_block.Tie as tie
@@ -16,12 +14,11 @@ returns c =
     let g0 = g1 .before .before .before .before in
     let k = g0 .before .before .before .before in
     let s = k .before .before .before in
-    let key = s .before .before .before .before .args .m .now in
-    let x = c .before .before .load in
-    let same = encrypts key (s .before .before .table .ensures) (s .before .table2 .ensures) (s .box-key .ensures) (k .subkeys .ensures) (g0 .fill .ensures) (g1 .fill2 .ensures) (g2 .fill3 .ensures) (g3 .fill4 .ensures) in
-    c .bytes .ensures
-    ∙ ap blockBytes (c .before .encrypt .ensures ∙ ap (λ (F : Block → Block). F (x .result)) same)
-    ∙ ap (λ (z : Block). blockBytes (encryptWords key z)) (x .ensures)
+    let a = s .before .before .before .before .args in
+    in-bytes (a .b .now)
+    (encrypts (a .m .now) (s .before .before .table .ensures) (s .before .table2 .ensures) (s .box-key .ensures) (k .subkeys .ensures)
+    (g0 .fill .ensures) (g1 .fill2 .ensures) (g2 .fill3 .ensures) (g3 .fill4 .ensures))
+    (c .before .before .load .ensures) (c .before .encrypt .ensures) (c .bytes .ensures)
 
 pub encrypt-block-spec : {M : Type 1} → statement M
 encrypt-block-spec =

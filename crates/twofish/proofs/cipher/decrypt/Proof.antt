@@ -3,8 +3,8 @@ use Rattle.twofish.specs.Cipher.{unround, unrounds, decrypt}
 use Rattle.words.specs.Table.{at}
 use Rattle.twofish.specs.Tabled.{tabledG, tabledDecrypt}
 use Rattle.twofish.proofs.Steps.{two-less, none-left}
-use mathlib.Core.Path.{_≡_, refl, ap, _∙_}
-use Prim.Native.Nat.{_*_, _-_, _≤_}
+use mathlib.Core.Path.{_≡_, refl}
+use Prim.Native.Nat.{_*_, _≤_}
 use native.Mathlib.Omega.{arith}
 use borrow.Author.Needs.{needs}
 use Rattle.twofish.proofs.cipher.decrypt.Statement.{statement}
@@ -23,9 +23,11 @@ loop-again c =
     let a = c .before .before .before .before .before .before .args in
     let l = c .before .before .before .loop in
     let g = tabledG (a .g0 .now) (a .g1 .now) (a .g2 .now) (a .g3 .now) in
-    let k = at (a .k .now) in
-    let back = c .unround2 .ensures ∙ ap (unround g k (2 * (l .i - 1))) (c .before .unround .ensures) in
-    (search needs, two-less (unrounds g k) (unround g k) (λ n x. refl) (l .i) (l .y) (c .before .before .loop-test .taken) back (l .inv .1))
+    let k = at (a .k .now) in (
+      search needs,
+      two-less (unrounds g k) (unround g k) (λ n x. refl) (l .i) (l .y) (c .before .before .loop-test .taken)
+          (c .before .unround .ensures) (c .unround2 .ensures) (l .inv .1),
+    )
 
 returns : tie.Need-returns Inv-loop μ-loop
 unfolding tabledDecrypt decrypt unrounds
@@ -34,7 +36,7 @@ returns c =
     let l = c .before .before .loop in
     let g = tabledG (a .g0 .now) (a .g1 .now) (a .g2 .now) (a .g3 .now) in
     let k = at (a .k .now) in
-    cc (none-left (unrounds g k) (unround g k) (λ x. refl) (l .i) (l .y) (omega arith) (l .inv .1))
+    cc (none-left (unrounds g k) (λ x. refl) (l .i) (l .y) (omega arith) (l .inv .1))
 
 pub decrypt-spec : {M : Type 1} → statement M
 decrypt-spec =

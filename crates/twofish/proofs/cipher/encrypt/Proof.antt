@@ -3,8 +3,8 @@ use Rattle.twofish.specs.Cipher.{rounds, encrypt}
 use Rattle.words.specs.Table.{at}
 use Rattle.twofish.specs.Tabled.{tabledG, tabledEncrypt}
 use Rattle.twofish.proofs.Steps.{two-more}
-use mathlib.Core.Path.{_≡_, refl, ap}
-use Prim.Native.Nat.{ℕ, _-_, _*_, _≤_}
+use mathlib.Core.Path.{_≡_, refl}
+use Prim.Native.Nat.{_-_, _*_, _≤_}
 use native.Mathlib.Omega.{arith}
 use borrow.Author.Needs.{needs}
 use Rattle.twofish.proofs.cipher.encrypt.Statement.{statement}
@@ -25,13 +25,11 @@ loop-again c =
     let a = c .before .before .before .before .before .args in
     let l = c .before .before .before .loop in
     let g = tabledG (a .g0 .now) (a .g1 .now) (a .g2 .now) (a .g3 .now) in
-    (search needs, two-more g (at (a .k .now)) (l .i) (c .before .before .before .before .whiten .result) (l .inv .1) (c .before .round .ensures) (c .round2 .ensures))
+    (search needs, two-more g (at (a .k .now)) (l .i) _ (l .inv .1) (c .before .round .ensures) (c .round2 .ensures))
 
 returns : tie.Need-returns Inv-loop μ-loop
 unfolding tabledEncrypt encrypt
 returns c =
-    let a = c .before .before .before .before .before .args in
-    let g = tabledG (a .g0 .now) (a .g1 .now) (a .g2 .now) (a .g3 .now) in
     let e : 2 * c .before .before .before .loop .i ≡ 16 = omega arith in
     cc e
 

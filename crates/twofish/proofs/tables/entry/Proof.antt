@@ -11,7 +11,9 @@ use Rattle.twofish.proofs.tables.entry.Tie as tie
 
 returns : tie.Need-returns
 unfolding entry
-returns c = rw (eq-eqb _ 0 (c .before .before .if1 .taken)) (c .col0 .ensures ∙ only0 _ (search needs) ∙ ap (λ (y : ℕ). mds y 0 0 0) (c .before .y0 .ensures))
+returns c =
+    rw (eq-eqb _ 0 (c .before .before .if1 .taken))
+    (c .col0 .ensures ∙ only0 _ (search needs) ∙ ap (λ (y : ℕ). mds y 0 0 0) (c .before .y0 .ensures))
 
 returns-2 : tie.Need-returns-2
 unfolding entry
