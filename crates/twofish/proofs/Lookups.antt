@@ -10,7 +10,6 @@ use Rattle.words.proofs.Tables.{at-table}
 use Rattle.twofish.specs.Field.{_⊕_}
 use Rattle.twofish.specs.Q.{q0, q1}
 use Rattle.twofish.specs.Key.{y0, y1, y2, y3, mds, h}
-use Rattle.twofish.specs.Columns.{col0, col1, col2, col3}
 use Rattle.twofish.specs.Tabled.{entry, filled, tabledG}
 use Rattle.twofish.proofs.ColumnSums.{columns, only0, only1, only2, only3}
 use Rattle.twofish.proofs.Permutations.{q0-byte, q1-byte}
@@ -37,22 +36,9 @@ module _ (l : List ℕ) where
   unfolding entry
   entry3 = every-entry 3
 
-  -- each y is a byte
-  byte0 : (x : ℕ) → y0 q0 q1 l x < 256
-  unfolding y0
-  byte0 x = q1-byte _
-
-  byte1 : (x : ℕ) → y1 q0 q1 l x < 256
-  unfolding y1
-  byte1 x = q0-byte _
-
-  byte2 : (x : ℕ) → y2 q0 q1 l x < 256
-  unfolding y2
-  byte2 x = q1-byte _
-
-  byte3 : (x : ℕ) → y3 q0 q1 l x < 256
-  unfolding y3
-  byte3 x = q0-byte _
+  bytes : (x : ℕ) → (y0 q0 q1 l x < 256) × (y1 q0 q1 l x < 256) × (y2 q0 q1 l x < 256) × (y3 q0 q1 l x < 256)
+  unfolding y0 y1 y2 y3
+  bytes x = (q1-byte _, q0-byte _, q1-byte _, q0-byte _)
 
   looked : (x : ℕ) → tabledG (filled q0 q1 l 0) (filled q0 q1 l 1) (filled q0 q1 l 2) (filled q0 q1 l 3) x ≡ h q0 q1 l x
   unfolding tabledG h
@@ -61,11 +47,11 @@ module _ (l : List ℕ) where
       let b = byteOf 1 x in
       let c = byteOf 2 x in
       let d = byteOf 3 x in
-      let p = entry0 a (omega arith) ∙ sym (only0 _ (byte0 a)) in
-      let q = entry1 b (omega arith) ∙ sym (only1 _ (byte1 b)) in
-      let r = entry2 c (omega arith) ∙ sym (only2 _ (byte2 c)) in
-      let s = entry3 d (omega arith) ∙ sym (only3 _ (byte3 d)) in
-      ap₂ _⊕_ (ap₂ _⊕_ (ap₂ _⊕_ p q) r) s ∙ columns _ _ _ _ (byte0 a) (byte1 b) (byte2 c) (byte3 d)
+      let p = entry0 a (omega arith) ∙ sym (only0 _ (bytes a .0)) in
+      let q = entry1 b (omega arith) ∙ sym (only1 _ (bytes b .1)) in
+      let r = entry2 c (omega arith) ∙ sym (only2 _ (bytes c .2)) in
+      let s = entry3 d (omega arith) ∙ sym (only3 _ (bytes d .3)) in
+      ap₂ _⊕_ (ap₂ _⊕_ (ap₂ _⊕_ p q) r) s ∙ columns _ _ _ _ (bytes a .0) (bytes b .1) (bytes c .2) (bytes d .3)
 
   pub looked-up : tabledG (filled q0 q1 l 0) (filled q0 q1 l 1) (filled q0 q1 l 2) (filled q0 q1 l 3) ≡ h q0 q1 l
   looked-up = fun-ext looked

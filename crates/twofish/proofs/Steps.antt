@@ -1,4 +1,4 @@
--- The rounds as the code goes: a round from the results of its calls, as its definition goes, and two rounds a turn, by taking one after another.
+-- A round from the results of its calls, and two rounds a turn, for one block or three, are those of the definition: one step of it after another.
 use mathlib.Core.Path.{_≡_, refl, sym, ap, ap₂, _∙_}
 use Prim.Native.Nat.{ℕ, suc, _+_, _-_, _*_, _%_, _^_, _<_}
 use native.Mathlib.Omega.{arith}
