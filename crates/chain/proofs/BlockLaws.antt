@@ -1,21 +1,18 @@
--- A mode on four words is the mode on their 16 bytes, over any cipher that the code's functions on four words are: the bytes of an exclusive or
--- are the exclusive ors of the bytes.
+-- A mode on four words is the mode on their 16 bytes, over any cipher on four words: the bytes of an exclusive or are the exclusive ors of the bytes.
 use Prim.Native.Nat.{ℕ}
-use mathlib.Core.Path.{_≡_, sym, ap, ap₂, _∙_}
+use mathlib.Core.Path.{_≡_, refl, sym, ap, ap₂, _∙_}
 use mathlib.Core.List.{List, _++_}
 use lib.Bits.{xor-lt}
 use lib.ListN.{length}
 use Rattle.words.specs.Numbers.{bytesLow, Sized}
 use Rattle.words.specs.Xor.{xored}
 use Rattle.words.proofs.NumberLaws.{bytes-sized}
-use Rattle.words.proofs.XorLaws.{xored-append, bytes-xor, sized-xored}
+use Rattle.words.proofs.XorLaws.{xored-append, bytes-xor}
 use Rattle.twofish.specs.Twofish.{blockOf, blockBytes}
 use Rattle.twofish.specs.declared.Block.{Block}
 use Rattle.twofish.proofs.Rounds.{Words}
-use Rattle.twofish.proofs.Inverse.{block-words, bytes-block, block-bytes, block-bytes-sized}
-use Rattle.chain.specs.Cipher.{Cipher}
-use Rattle.chain.specs.Modes.{ecbE, ecbD, cbcE, cbcD}
-use Rattle.chain.specs.Blocks.{xorBlock, wordsE, wordsD, modeE, modeD}
+use Rattle.twofish.proofs.Inverse.{block-words, bytes-block, block-bytes}
+use Rattle.chain.specs.Blocks.{xorBlock, chained, onBytes, modeE, modeD}
 use Rattle.chain.specs.declared.Mode.{Mode}
 use Rattle.chain.specs.declared.Mode.the-variants.{Ecb, Cbc}
 
@@ -49,21 +46,14 @@ block-xor b p hb hp =
     ∙ ap blockOf (sym (xor-bytes (blockOf b) p))
     ∙ block-bytes (xorBlock (blockOf b) p) (xor-words (blockOf b) p (block-words b (hb .bytes)) hp)
 
--- F does on four words what f does on their 16 bytes
-abbrev pub Does : (Block → Block) → (List ℕ → List ℕ) → Type 0
-Does F f = (b : List ℕ) → Sized 16 b → blockBytes (F (blockOf b)) ≡ f b
+module _ (F : Block → Block) where
+  pub words-e : (mode : Mode) (b : List ℕ) (p : Block) → Sized 16 b → Words p
+      → blockBytes (F (chained mode p (blockOf b))) ≡ modeE mode (onBytes F) (blockBytes p) b
+  unfolding chained modeE onBytes
+  words-e Ecb b p hb hp = refl
+  words-e Cbc b p hb hp = ap (λ (x : Block). blockBytes (F x)) (sym (block-xor b p hb hp))
 
-module _ (C : Cipher) (key : List ℕ) (F : Block → Block) where
-  pub words-e : Does F (C .enc key) → (mode : Mode) (b : List ℕ) (p : Block) → Sized 16 b → Words p
-      → blockBytes (wordsE mode F p (blockOf b)) ≡ modeE mode C key (blockBytes p) b
-  unfolding wordsE modeE ecbE cbcE
-  words-e does Ecb b p hb hp = does b hb
-  words-e does Cbc b p hb hp =
-      ap (λ (x : Block). blockBytes (F x)) (sym (block-xor b p hb hp))
-      ∙ does (xored b (blockBytes p)) (sized-xored 16 b (blockBytes p) hb (block-bytes-sized p))
-
-  pub words-d : Does F (C .dec key) → (mode : Mode) (b : List ℕ) (p : Block) → Sized 16 b
-      → blockBytes (wordsD mode F p (blockOf b)) ≡ modeD mode C key (blockBytes p) b
-  unfolding wordsD modeD ecbD cbcD
-  words-d does Ecb b p hb = does b hb
-  words-d does Cbc b p hb = xor-bytes (F (blockOf b)) p ∙ ap (λ (x : List ℕ). xored x (blockBytes p)) (does b hb)
+  pub words-d : (mode : Mode) (b : List ℕ) (p : Block) → blockBytes (chained mode p (F (blockOf b))) ≡ modeD mode (onBytes F) (blockBytes p) b
+  unfolding chained modeD onBytes
+  words-d Ecb b p = refl
+  words-d Cbc b p = xor-bytes (F (blockOf b)) p

@@ -1,65 +1,78 @@
--- Block j of a memory, lent and stored over: the memory is cut before it and after it, and both cuts are found again.
-use Prim.Native.Nat.{ℕ, _+_, _-_, _*_, _≤_}
+-- A part of a memory, lent and stored over: the memory is cut before it and after it, and both cuts are found again.
+use Prim.Native.Nat.{ℕ, zero, suc, _+_, _-_, _≤_}
 use mathlib.Core.Path.{_≡_, refl, sym, ap, ap₂, _∙_}
-use mathlib.Core.List.{List, _++_, append-assoc, append-nil}
+use mathlib.Core.List.{List, [], _∷_, _++_, append-assoc, append-nil}
 use native.Mathlib.Omega.{arith}
 use lib.ListN.{length, take, drop, length-append, length-take, length-drop, drop-of-length-le}
-use lib.Seq.{take-all, take-at, drop-at, drop-drop}
-use Rattle.words.specs.Numbers.{Bytes, Sized}
+use lib.Seq.{take-all, take-at, take-take, drop-at, drop-drop}
 use Rattle.words.specs.Slices.{copied}
-use Rattle.words.proofs.ByteLaws.{bytes-take, bytes-drop}
 
--- block j of l
-abbrev pub blockIn : List ℕ → ℕ → List ℕ
-blockIn l j = take 16 (drop (16 * j) l)
+-- the s bytes from i on, as the code lends them, and the memory with v in their place
+abbrev pub part : List ℕ → ℕ → ℕ → List ℕ
+part l i s = take (i + s - i) (drop i l)
 
-pub block-sized : {l : List ℕ} (j : ℕ) → Bytes l → 16 * j + 16 ≤ length l → Sized 16 (blockIn l j)
-block-sized {l} j h k =
-    record { long = simp (length-take, length-drop) (omega arith); bytes = bytes-take 16 (bytes-drop (16 * j) h) }
+abbrev pub around : List ℕ → ℕ → ℕ → List ℕ → List ℕ
+around l i s v = take i l ++ (v ++ drop (i + s - i) (drop i l))
 
--- the part that the code lends, and the memory with v in its place
-abbrev pub part : List ℕ → ℕ → List ℕ
-part l j = take (16 * j + 16 - 16 * j) (drop (16 * j) l)
+width : (i s : ℕ) → i + s - i ≡ s
+width i s = omega arith
 
-abbrev pub around : List ℕ → ℕ → List ℕ → List ℕ
-around l j v = take (16 * j) l ++ (v ++ drop (16 * j + 16 - 16 * j) (drop (16 * j) l))
+pub part-is : (l : List ℕ) (i s : ℕ) → part l i s ≡ take s (drop i l)
+part-is l i s = ap (λ (n : ℕ). take n (drop i l)) (width i s)
 
-sixteen : (j : ℕ) → 16 * j + 16 - 16 * j ≡ 16
-sixteen j = omega arith
+pub part-long : (l : List ℕ) (i s : ℕ) → i + s ≤ length l → length (part l i s) ≡ s
+part-long l i s h = ap length (part-is l i s) ∙ simp (length-take, length-drop) (omega arith)
 
-pub part-is : (l : List ℕ) (j : ℕ) → part l j ≡ blockIn l j
-part-is l j = rw (sixteen j) refl
+-- a part of a part
+pub part-of : (k p m : ℕ) (l : List ℕ) → p + k ≤ m → take k (drop p (take m l)) ≡ take k (drop p l)
+part-of k zero m l h = take-take k m l (omega arith)
+part-of k (suc p) zero l h = absurd (omega arith)
+part-of k (suc p) (suc m) [] h = refl
+part-of k (suc p) (suc m) (x ∷ l) h = part-of k p m l (omega arith)
 
--- 16 bytes b are copied over block j
-module _ (l : List ℕ) (j : ℕ) (b : List ℕ) {v : List ℕ} (fits : 16 * j + 16 ≤ length l) (h : length b ≡ 16) (e : v ≡ copied (part l j) b) where
-  over : v ≡ b
-  over =
-      let k : length (blockIn l j) ≡ 16 = simp (length-take, length-drop) (omega arith) in
-      e
-      ∙ ap (λ (p : List ℕ). copied p b) (part-is l j)
-      ∙ ap₂ _++_ (take-all (length (blockIn l j)) b (omega arith)) (drop-of-length-le (blockIn l j) {i = length b} (omega arith))
-      ∙ append-nil b
+-- as many bytes as a part has, copied over it
+pub over : (l b : List ℕ) {v : List ℕ} → length b ≡ length l → v ≡ copied l b → v ≡ b
+over l b h e =
+    e ∙ ap₂ _++_ (take-all (length l) b (omega arith)) (drop-of-length-le l {i = length b} (omega arith)) ∙ append-nil b
 
-  split : around l j v ≡ (take (16 * j) l ++ b) ++ drop (16 * j + 16) l
+-- v, as long as the part, in its place; the memory then goes on from j
+module _ (l : List ℕ) (i s j : ℕ) (v : List ℕ) (next : i + s ≡ j) (fits : j ≤ length l) (h : length v ≡ s) where
+  split : around l i s v ≡ (take i l ++ v) ++ drop j l
   split =
-      ap₂ (λ (x : List ℕ) (n : ℕ). take (16 * j) l ++ (x ++ drop n (drop (16 * j) l))) over (sixteen j)
-      ∙ ap (λ (y : List ℕ). take (16 * j) l ++ (b ++ y)) (drop-drop 16 (16 * j) l)
-      ∙ sym (append-assoc (take (16 * j) l) b (drop (16 * j + 16) l))
+      ap (λ (n : ℕ). take i l ++ (v ++ drop n (drop i l))) (width i s)
+      ∙ ap (λ (y : List ℕ). take i l ++ (v ++ y)) (drop-drop s i l ∙ ap (λ (n : ℕ). drop n l) next)
+      ∙ sym (append-assoc (take i l) v (drop j l))
 
-  long : length (take (16 * j) l ++ b) ≡ 16 * (j + 1)
+  long : length (take i l ++ v) ≡ j
   long = simp (length-append, length-take) (omega arith)
 
-  pub around-take : take (16 * (j + 1)) (around l j v) ≡ take (16 * j) l ++ b
-  around-take = ap (take (16 * (j + 1))) split ∙ take-at (take (16 * j) l ++ b) (drop (16 * j + 16) l) (16 * (j + 1)) long
+  pub around-take : take j (around l i s v) ≡ take i l ++ v
+  around-take = ap (take j) split ∙ take-at (take i l ++ v) (drop j l) j long
 
-  pub around-drop : drop (16 * (j + 1)) (around l j v) ≡ drop 16 (drop (16 * j) l)
-  around-drop =
-      ap (drop (16 * (j + 1))) split
-      ∙ drop-at (take (16 * j) l ++ b) (drop (16 * j + 16) l) (16 * (j + 1)) long
-      ∙ sym (drop-drop 16 (16 * j) l)
+  pub around-drop : drop j (around l i s v) ≡ drop j l
+  around-drop = ap (drop j) split ∙ drop-at (take i l ++ v) (drop j l) j long
 
-  pub around-length : length (around l j v) ≡ length l
+  pub around-length : length (around l i s v) ≡ length l
   around-length = ap length split ∙ simp (length-append, length-take, length-drop) (omega arith)
 
-pub drop-more : (l : List ℕ) (j : ℕ) → drop 16 (drop (16 * j) l) ≡ drop (16 * (j + 1)) l
-drop-more l j = let e : 16 * j + 16 ≡ 16 * (j + 1) = omega arith in drop-drop 16 (16 * j) l ∙ ap (λ (i : ℕ). drop i l) e
+-- three blocks stored one after the other fill 48 bytes
+pub three-stored : (l x y z : List ℕ) {u v w : List ℕ} → length l ≡ 48 → length x ≡ 16 → length y ≡ 16 → length z ≡ 16
+    → u ≡ copied (part l 0 16) x → v ≡ copied (part (around l 0 16 u) 16 16) y → w ≡ copied (part (around (around l 0 16 u) 16 16 v) 32 16) z
+    → around (around (around l 0 16 u) 16 16 v) 32 16 w ≡ x ++ (y ++ z)
+three-stored l x y z {u} {v} {w} hl hx hy hz eu ev ew =
+    let l1 = around l 0 16 u in
+    let l2 = around l1 16 16 v in
+    let pu : u ≡ x = over (part l 0 16) x (hx ∙ sym (part-long l 0 16 (omega arith))) eu in
+    let hu : length u ≡ 16 = ap length pu ∙ hx in
+    let h1 : length l1 ≡ 48 = around-length l 0 16 16 u refl (omega arith) hu ∙ hl in
+    let pv : v ≡ y = over (part l1 16 16) y (hy ∙ sym (part-long l1 16 16 (omega arith))) ev in
+    let hv : length v ≡ 16 = ap length pv ∙ hy in
+    let h2 : length l2 ≡ 48 = around-length l1 16 16 32 v refl (omega arith) hv ∙ h1 in
+    let pw : w ≡ z = over (part l2 32 16) z (hz ∙ sym (part-long l2 32 16 (omega arith))) ew in
+    let hw : length w ≡ 16 = ap length pw ∙ hz in
+    let h3 = around-length l2 32 16 48 w refl (omega arith) hw ∙ h2 in
+    sym (take-all 48 (around l2 32 16 w) (omega (arith, h3)))
+    ∙ around-take l2 32 16 48 w refl (omega arith) hw
+    ∙ ap (λ (t : List ℕ). t ++ w) (around-take l1 16 16 32 v refl (omega arith) hv ∙ ap (λ (t : List ℕ). t ++ v) (around-take l 0 16 16 u refl (omega arith) hu))
+    ∙ append-assoc u v w
+    ∙ ap₂ _++_ pu (ap₂ _++_ pv pw)

@@ -12,6 +12,7 @@ use Rattle.words.specs.Slices.{copied}
 use Rattle.chain.specs.Modes.{encrypted, decrypted}
 use Rattle.chain.specs.Decryption.{decryption, run}
 use Rattle.chain.specs.Memory.{wholeBlocks, encryptedInPlace, encryptedInto, decryptedInPlace, Handed}
+use Rattle.chain.specs.Blocks.{encryptedBlocks, decryptedBlocks}
 use Rattle.chain.proofs.StepLaws.{decryption-done, decryption-count, decryption-rest}
 
 pub whole : (n : ℕ) (l : List ℕ) → length l ≡ 16 * n → wholeBlocks l ≡ n
@@ -20,6 +21,9 @@ whole n l h =
     let p : length l % 16 ≡ 0 = omega arith in
     let q : length l / 16 ≡ n = omega arith in
     rw (eq-eqb (length l % 16) 0 p) q
+
+whole-here : (l : List ℕ) → length l % 16 ≡ 0 → wholeBlocks l ≡ length l / 16
+whole-here l h = whole (length l / 16) l (omega arith)
 
 pub blocks-none : (l : List ℕ) → (length l % 16 ≡ 0 → ⊥) → wholeBlocks l ≡ 0
 unfolding wholeBlocks
@@ -48,14 +52,14 @@ module _ (e : List ℕ → List ℕ → List ℕ) where
   unfolding encryptedInto
   encrypted-into n p l to h k = rw (le-leb (length l) (length to) k, whole n l h) refl
 
-  -- as the code goes: refused, or all blocks done
+  -- as the code goes: refused, or all blocks
   pub refused-encrypt : (p l : List ℕ) → (length l % 16 ≡ 0 → ⊥) → l ≡ encryptedInPlace e p l
   unfolding encryptedInPlace encrypted
   refused-encrypt p l h = rw (blocks-none l h) refl
 
-  pub all-encrypted : (n : ℕ) (p l : List ℕ) {w : List ℕ} → length l ≡ 16 * n → w ≡ encrypted e n p l ++ drop (16 * n) l → w ≡ encryptedInPlace e p l
-  unfolding encryptedInPlace
-  all-encrypted n p l h g = rw (whole n l h) g
+  pub encrypted-here : (p l : List ℕ) → length l % 16 ≡ 0 → encryptedInPlace e p l ≡ encryptedBlocks e p l
+  unfolding encryptedInPlace encryptedBlocks
+  encrypted-here p l h = rw (whole-here l h) refl
 
   pub refused-into : (p l to : List ℕ) → (length l % 16 ≡ 0 → ⊥) → to ≡ encryptedInto e p l to
   unfolding encryptedInto encrypted
@@ -78,17 +82,32 @@ module _ (e : List ℕ → List ℕ → List ℕ) where
       ∙ sym (encrypted-into n p l to k h)
 
 module _ (d : List ℕ → List ℕ → List ℕ) where
-  -- as the code goes: refused, or all blocks done
+  -- as the code goes: refused, or all blocks
   pub refused-decrypt : (p l : List ℕ) (c : ℕ) → (length l % 16 ≡ 0 → ⊥) → c < 2 ^ 64 → Handed (decryptedInPlace d p l c) l c
   unfolding decryptedInPlace run decryption
   refused-decrypt p l c h k = rw (blocks-none l h) (record { text = refl; blocks = omega arith })
 
-  pub all-decrypted : (n : ℕ) (p l : List ℕ) (c : ℕ) {w : List ℕ} {r : ℕ} → length l ≡ 16 * n
-      → w ≡ decrypted d n p l ++ drop (16 * n) l → r ≡ (c + n) % 2 ^ 64 → Handed (decryptedInPlace d p l c) w r
-  unfolding decryptedInPlace
-  all-decrypted n p l c h g k =
-      rw (whole n l h)
-      (record {
+  pub decrypted-here : (p l : List ℕ) (c : ℕ) → length l % 16 ≡ 0 → decryptedInPlace d p l c ≡ decryptedBlocks d p l c
+  unfolding decryptedInPlace decryptedBlocks
+  decrypted-here p l c h = rw (whole-here l h) refl
+
+  -- what is handed on, where all blocks are done
+  pub all-decrypted : (p l : List ℕ) (c : ℕ) {w : List ℕ} {r : ℕ} → w ≡ decrypted d (length l / 16) p l ++ drop (16 * (length l / 16)) l
+      → r ≡ (c + length l / 16) % 2 ^ 64 → Handed (decryptedBlocks d p l c) w r
+  unfolding decryptedBlocks
+  all-decrypted p l c g k =
+      let n = length l / 16 in
+      record {
         text = g ∙ sym (ap₂ _++_ (decryption-done d n p l c) (decryption-rest d n p l c));
         blocks = k ∙ sym (ap (λ (m : ℕ). m % 2 ^ 64) (decryption-count d n p l c));
-      })
+      }
+
+  -- and back
+  pub handed-text : (p l : List ℕ) (c : ℕ) {w : List ℕ} {r : ℕ} → Handed (decryptedBlocks d p l c) w r
+      → w ≡ decrypted d (length l / 16) p l ++ drop (16 * (length l / 16)) l
+  unfolding decryptedBlocks
+  handed-text p l c h = let n = length l / 16 in h .text ∙ ap₂ _++_ (decryption-done d n p l c) (decryption-rest d n p l c)
+
+  pub handed-count : (p l : List ℕ) (c : ℕ) {w : List ℕ} {r : ℕ} → Handed (decryptedBlocks d p l c) w r → r ≡ (c + length l / 16) % 2 ^ 64
+  unfolding decryptedBlocks
+  handed-count p l c h = h .blocks ∙ ap (λ (m : ℕ). m % 2 ^ 64) (decryption-count d (length l / 16) p l c)

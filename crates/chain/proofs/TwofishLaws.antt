@@ -1,21 +1,22 @@
 -- Twofish meets the laws of a block cipher, by its two inverses; so ECB and CBC over it undo themselves with nothing left to assume.
 -- And it is what the code's functions on four words do, with the lists that a key makes.
 use Prim.Native.Nat.{ℕ, _*_}
-use mathlib.Core.Path.{_≡_, ap}
+use mathlib.Core.Path.{_≡_, ap, _∙_}
 use mathlib.Core.List.{List}
-use Rattle.words.specs.Numbers.{Sized}
+use lib.ListN.{length}
+use Rattle.words.specs.Numbers.{Bytes, Sized}
 use Rattle.words.specs.Table.{at}
 use Rattle.twofish.specs.Q.{table0, table1}
 use Rattle.twofish.specs.Key.{boxKey, subkeys}
-use Rattle.twofish.specs.Tabled.{tabledEncrypt, tabledDecrypt}
+use Rattle.twofish.specs.Tabled.{filled, tabledEncrypt, tabledDecrypt}
 use Rattle.twofish.specs.Twofish.{blockOf, blockBytes, encryptBlock, decryptBlock}
 use Rattle.twofish.specs.declared.Block.{Block}
 use Rattle.twofish.proofs.Keyed.{encrypts, decrypts}
-use Rattle.twofish.proofs.Inverse.{encrypt-block-sized, decrypt-block-sized, decrypt-encrypt-block, encrypt-decrypt-block}
+use Rattle.twofish.proofs.Inverse.{bytes-block, encrypt-block-sized, decrypt-block-sized, decrypt-encrypt-block, encrypt-decrypt-block}
 use Rattle.chain.specs.Cipher.{CipherLaws}
 use Rattle.chain.specs.Modes.{ecbE, ecbD, cbcE, cbcD, encrypted, decrypted}
 use Rattle.chain.specs.Twofish.{twofishCipher}
-use Rattle.chain.proofs.BlockLaws.{Does}
+use Rattle.chain.specs.Blocks.{onBytes}
 use Rattle.chain.proofs.ModeLaws.{ModeLaws, ecb-laws, cbc-laws, decrypted-encrypted, encrypted-decrypted}
 
 pub twofishLaws : CipherLaws twofishCipher
@@ -47,11 +48,17 @@ module _ (k : List ℕ) (hk : Sized 32 k) where
     pub cbc-again : encrypted (cbcE twofishCipher k) n p (decrypted (cbcD twofishCipher k) n p l) ≡ l
     cbc-again = encrypted-decrypted _ _ twofish-cbc n p l hp hl
 
-module _ (key : List ℕ) {t0 t1 s k : List ℕ} (p : t0 ≡ table0) (q : t1 ≡ table1) (b : s ≡ boxKey key) (w : k ≡ subkeys (at t0) (at t1) key) where
-  pub tabled-enc : Does (tabledEncrypt t0 t1 s k) (twofishCipher .enc key)
-  unfolding encryptBlock
-  tabled-enc l h = ap (λ (F : Block → Block). blockBytes (F (blockOf l))) (encrypts key p q b w)
+module _ (key : List ℕ) {t0 t1 s k g0 g1 g2 g3 : List ℕ} (p : t0 ≡ table0) (q : t1 ≡ table1) (b : s ≡ boxKey key) (w : k ≡ subkeys (at t0) (at t1) key)
+    (e0 : g0 ≡ filled (at t0) (at t1) s 0) (e1 : g1 ≡ filled (at t0) (at t1) s 1) (e2 : g2 ≡ filled (at t0) (at t1) s 2)
+    (e3 : g3 ≡ filled (at t0) (at t1) s 3) where
+  pub tabled-enc : onBytes (tabledEncrypt g0 g1 g2 g3 k) ≡ encryptBlock key
+  unfolding onBytes encryptBlock
+  tabled-enc = ap onBytes (encrypts key p q b w e0 e1 e2 e3)
 
-  pub tabled-dec : Does (tabledDecrypt t0 t1 s k) (twofishCipher .dec key)
-  unfolding decryptBlock
-  tabled-dec l h = ap (λ (F : Block → Block). blockBytes (F (blockOf l))) (decrypts key p q b w)
+  pub tabled-dec : onBytes (tabledDecrypt g0 g1 g2 g3 k) ≡ decryptBlock key
+  unfolding onBytes decryptBlock
+  tabled-dec = ap onBytes (decrypts key p q b w e0 e1 e2 e3)
+
+-- the block that the first one is chained to has the bytes of the initial vector
+pub iv-bytes : (iv : List ℕ) {r : Block} → length iv ≡ 16 → (r ≡ blockOf iv) × Bytes iv → blockBytes r ≡ iv
+iv-bytes iv h e = ap blockBytes (e .0) ∙ bytes-block iv (record { long = h; bytes = e .1 })

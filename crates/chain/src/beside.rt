@@ -12,7 +12,7 @@ ghost use Rattle.twofish.specs.Tabled.{tabledDecrypt};
 ghost use Rattle.chain.specs.Blocks.{textsOf, threeOf, DecryptedThree};
 
 fn load_three(b: &[u8]) -> Three
-    requires { ⌜ length (now (b .entry)) ≡ 48 ⌝ }
+    requires { ⌜ length (now b) ≡ 48 ⌝ }
     ensures { λ r. ⌜ r ≡ threeOf (now (b .entry)) ⌝ }
 {
     Three {
@@ -54,7 +54,7 @@ pub fn decrypt(
     prev: Block,
     b: &mut [u8],
 ) -> Block
-    requires { ⌜ length (now (b .entry)) ≡ 48 ⌝ }
+    requires { ⌜ length (now b) ≡ 48 ⌝ }
     ensures { λ r. ⌜ DecryptedThree mode (tabledDecrypt (now (g0 .entry)) (now (g1 .entry)) (now (g2 .entry)) (now (g3 .entry)) (now (k .entry)))
         prev (now (b .entry)) (now (b .exit)) r ⌝ }
 {

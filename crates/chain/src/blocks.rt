@@ -81,19 +81,19 @@ pub fn decrypt(
         (modeD mode (onBytes (tabledDecrypt (now (g0 .entry)) (now (g1 .entry)) (now (g2 .entry)) (now (g3 .entry)) (now (k .entry)))))
         (blockBytes first) (now (work .entry)) count) (now (work .exit)) r ⌝ }
 {
-    let threes = work.len() / 48;
+    let turns = work.len() / 48;
     let mut prev = first;
     let mut c = count;
-    let mut done: usize = 0;
-    while done < threes {
-        let i = 48 * done;
+    let mut turn: usize = 0;
+    while turn < turns {
+        let i = 48 * turn;
         let e = i + 48;
-        done += 1;
+        turn += 1;
         prev = beside::decrypt(mode, g0, g1, g2, g3, k, prev, &mut work[i..e]);
-        c = std::num::wrapping_add_u64(c, 1);
-        c = std::num::wrapping_add_u64(c, 1);
-        c = std::num::wrapping_add_u64(c, 1);
+        let one = std::num::wrapping_add_u64(c, 1);
+        let two = std::num::wrapping_add_u64(one, 1);
+        c = std::num::wrapping_add_u64(two, 1);
     }
-    let i = 48 * threes;
-    decrypt_singly(mode, g0, g1, g2, g3, k, prev, &mut work[i..], c)
+    let left = 48 * turn;
+    decrypt_singly(mode, g0, g1, g2, g3, k, prev, &mut work[left..], c)
 }

@@ -25,7 +25,7 @@ slice-aggregate-encrypt c =
     sym (ap length (copy-front (a .from .now) (a .to .now) (c .before .before .before .before .before .if2 .left) (c .before .before .before .copy .ensures)))
 
 returns-3 : tie.Need-returns-3
-unfolding modeE
+unfolding modeE cbcE
 returns-3 c =
     let tested = c .before .before .before .before .before .before .before .before in
     let a = tested .before .before .before .before .args in

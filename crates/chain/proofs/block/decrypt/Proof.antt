@@ -1,6 +1,7 @@
--- `chain::block::decrypt` meets its contract: the block is read, and the bytes of its text are copied over it.
-use Rattle.twofish.specs.Twofish.{blockBytes}
+-- `chain::block::decrypt` meets its contract: the block is read, decrypted and chained, and its text stored over it.
 use Rattle.words.specs.Slices.{copied}
+use Rattle.twofish.specs.Twofish.{blockBytes}
+use Rattle.chain.specs.Blocks.{chained}
 use mathlib.Core.Path.{ap, _∙_}
 use borrow.Author.Needs.{needs}
 use Rattle.chain.proofs.block.decrypt.Statement.{statement}
@@ -8,10 +9,12 @@ use Rattle.chain.proofs.block.decrypt.Tie as tie
 
 returns : tie.Need-returns
 returns c =
-    let l = c .before .before .before .before .before .before .before .before .before .before .args .b .now in
+    let a = c .before .before .before .before .before .before .before .before .before .args in
     record {
-      block = c .before .before .before .before .before .before .before .load .ensures;
-      memory = c .before .before .copy .ensures ∙ ap (copied l) (c .before .before .before .before .before .bytes .ensures ∙ ap blockBytes (c .before .before .before .before .before .before .decrypt-words .ensures));
+      block = c .before .before .before .before .before .before .load .ensures;
+      memory =
+          c .before .before .store .ensures
+          ∙ ap (λ y. copied (a .b .now) (blockBytes y)) (c .before .before .before .before .chained .ensures ∙ ap (chained (a .mode) (a .prev)) (c .before .before .before .before .before .decrypt .ensures));
     }
 
 pub decrypt-spec : {M : Type 1} → statement M
@@ -21,7 +24,6 @@ decrypt-spec =
     (λ c κs. search needs)
     (λ c κs. search needs)
     (λ c κs. search needs)
-    (λ c. search needs)
     (λ c κs. search needs)
     (λ c. search needs)
     returns)

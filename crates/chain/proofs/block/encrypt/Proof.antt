@@ -1,5 +1,7 @@
--- `chain::block::encrypt` meets its contract: the block is read, and the bytes of its cipher block are copied over it.
-use Rattle.words.specs.Slices.{copied}
+-- `chain::block::encrypt` meets its contract: the block is read, chained and encrypted, and its cipher block stored over it.
+use Rattle.twofish.specs.Tabled.{tabledEncrypt}
+use Rattle.chain.specs.Blocks.{chained}
+use Rattle.twofish.specs.declared.Block.{Block}
 use mathlib.Core.Path.{ap, _∙_}
 use borrow.Author.Needs.{needs}
 use Rattle.chain.proofs.block.encrypt.Statement.{statement}
@@ -7,8 +9,12 @@ use Rattle.chain.proofs.block.encrypt.Tie as tie
 
 returns : tie.Need-returns
 returns c =
-    let l = c .before .before .before .before .before .before .before .before .before .before .args .b .now in
-    record { block = cc; memory = c .before .before .copy .ensures ∙ ap (copied l) (c .before .before .before .before .before .bytes .ensures) }
+    let a = c .before .before .before .before .before .before .before .before .before .args in
+    let E = tabledEncrypt (a .g0 .now) (a .g1 .now) (a .g2 .now) (a .g3 .now) (a .k .now) in
+    record {
+      block = c .before .before .before .before .encrypt .ensures ∙ ap E (c .before .before .before .before .before .chained .ensures ∙ ap (chained (a .mode) (a .prev)) (c .before .before .before .before .before .before .load .ensures));
+      memory = c .before .before .store .ensures;
+    }
 
 pub encrypt-spec : {M : Type 1} → statement M
 encrypt-spec =
@@ -17,7 +23,6 @@ encrypt-spec =
     (λ c κs. search needs)
     (λ c κs. search needs)
     (λ c κs. search needs)
-    (λ c. search needs)
     (λ c κs. search needs)
     (λ c. search needs)
     returns)

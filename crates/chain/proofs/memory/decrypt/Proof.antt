@@ -1,89 +1,50 @@
--- `chain::memory::decrypt` meets its contract: after j turns the memory has the definition's first j blocks of text, and then what is left of the cipher text; the count has gone on by j.
+-- `chain::memory::decrypt` meets its contract: `blocks::decrypt`, with the tables that the key makes.
+use mathlib.Core.Path.{sym, ap₂, _∙_, subst}
+use mathlib.Core.List.{List}
+use Prim.Native.Nat.{ℕ}
+use Rattle.twofish.specs.Twofish.{decryptBlock}
+use Rattle.chain.specs.Decryption.{Decryption}
+use Rattle.chain.specs.Memory.{Handed}
+use Rattle.chain.specs.Blocks.{modeD, decryptedBlocks}
+use Rattle.chain.proofs.MemoryLaws.{refused-decrypt, decrypted-here}
+use Rattle.chain.proofs.TwofishLaws.{tabled-dec, iv-bytes}
 use borrow.Author.Needs.{needs}
-use mathlib.Core.Path.{_≡_, sym, ap, _∙_, subst}
-use mathlib.Core.List.{List, _++_}
-use Prim.Native.Nat.{ℕ, _+_, _-_, _*_, _/_, _%_, _^_, _≤_}
-use native.Mathlib.Omega.{arith}
-use lib.ListN.{length, drop}
-use Rattle.words.specs.Numbers.{Bytes, Sized}
-use Rattle.words.proofs.ByteLaws.{bytes-of}
-use Rattle.chain.specs.Blocks.{modeD}
-use Rattle.chain.specs.Twofish.{twofishCipher}
-use Rattle.chain.proofs.MemoryLaws.{refused-decrypt, all-decrypted}
-use Rattle.chain.proofs.Through.{taken, through-d}
-use Rattle.chain.proofs.Turns.{Turned, turned-start, turned-end, decrypt-turn}
-use Rattle.chain.proofs.TwofishLaws.{tabled-dec}
 use Rattle.chain.proofs.memory.decrypt.Statement.{statement}
 use Rattle.chain.proofs.memory.decrypt.Tie as tie
 
-abbrev Inv-loop : tie.InvT-loop
-Inv-loop mode key iv work₀ count t0 t1 s k blocks prev₀ c₀ done₀ work prev c done =
-    Turned (modeD mode twofishCipher key) taken blocks iv work₀ done work prev × (done ≤ blocks) × (c ≡ (count + done) % 2 ^ 64)
-
-abbrev μ-loop : tie.MeasureT-loop
-μ-loop mode key iv work₀ count t0 t1 s k blocks prev₀ c₀ done₀ work prev c done = blocks - done
-
-returns : tie.Need-returns Inv-loop μ-loop
+returns : tie.Need-returns
 returns c =
     let a = c .before .before .args in
-    refused-decrypt (modeD (a .mode) twofishCipher (a .key .now)) (a .iv .now) (a .work .now) (a .count) (c .if1 .taken) (search needs)
+    refused-decrypt (modeD (a .mode) (decryptBlock (a .key .now))) (a .iv .now) (a .work .now) (a .count) (c .if1 .taken) (search needs)
 
-loop-holds : tie.Need-loop-holds Inv-loop μ-loop
-loop-holds c =
-    let a = c .before .before .before .before .before .before .before .before .before .before .args in
-    let iv = a .iv .now in
-    let sized : Sized 16 iv = record { long = c .before .start-arg .given .0; bytes = c .start .ensures .1 } in
-    (subst (Turned _ _ _ iv (a .work .now) 0 (a .work .now)) (sym (c .start .ensures .0)) (turned-start _ _ _ iv (a .work .now) sized), omega arith, omega arith)
-
-loop-again : tie.Need-loop-again Inv-loop μ-loop
-loop-again c =
-    let u = c .before .before .before .decrypt in
-    let turn = c .before .before .before .before .before .before .before .before .before in
-    let l = turn .before .loop in
-    let made = turn .before .before .before .before in
-    let begun = made .before .before .before .before .before .before .before in
-    let a = begun .before .args in
-    let does = tabled-dec (a .key .now) (made .before .before .before .before .before .table .ensures) (made .before .before .before .before .table2 .ensures) (made .before .before .before .box-key .ensures) (made .subkeys .ensures) in
-    let bytes : Bytes (a .work .now) = bytes-of (a .work .now) (λ i. omega (arith, begun .slice-known .given i)) in (
-      decrypt-turn twofishCipher (a .key .now) (a .mode) _ (a .iv .now) (a .work .now) bytes does (l .inv .0) (turn .loop-test .taken)
-          (omega (arith, turn .loop-test .taken)) (u .result) (u .last .1 .1 .1 .1 .1 .1 .0) (u .ensures),
-      omega (arith, turn .loop-test .taken),
-      omega (arith, l .inv .2, c .wrapping-add-u64 .ensures),
-    )
-
-returns-2 : tie.Need-returns-2 Inv-loop μ-loop
+returns-2 : tie.Need-returns-2
 returns-2 c =
-    let a = c .before .before .before .before .before .before .before .before .before .before .before .before .args in
-    let l = c .before .loop in
-    let f = modeD (a .mode) twofishCipher (a .key .now) in
-    let w = a .work .now in
-    let n = length w / 16 in
-    let done = turned-end _ _ n (a .iv .now) w (l .inv .0) (omega (arith, c .loop-test .left)) in
-    all-decrypted f n (a .iv .now) w (a .count) (omega (arith, c .before .before .before .before .before .before .before .before .before .before .if1 .left))
-    (done ∙ ap (λ (x : List ℕ). x ++ drop (16 * n) w) (through-d f n (a .iv .now) w)) (omega (arith, l .inv .2, c .loop-test .left))
+    let a = c .before .before .before .before .before .before .before .before .before .before .before .before .before .before .before .before .before .before .before .before .before .before .before .before .before .before .before .before .before .before .before .before .before .before .before .args in
+    let made = c .before .before .before .before .before .before .before .before .before .before .before .before .before .before .before .before .before .before .before .before .before .before .before in
+    let tables = made .before .before .before .before .before .before .before in
+    let same = tabled-dec (a .key .now) (tables .before .before .table .ensures) (tables .before .table2 .ensures) (tables .box-key .ensures)
+    (made .before .before .before .before .subkeys .ensures) (made .fill .ensures) (c .before .before .before .before .before .before .before .before .before .before .before .before .before .before .before .before .before .before .before .fill2 .ensures) (c .before .before .before .before .before .before .before .before .before .before .before .before .before .before .before .fill3 .ensures) (c .before .before .before .before .before .before .before .before .before .before .before .fill4 .ensures) in
+    let begun = iv-bytes (a .iv .now) (c .before .before .before .before .before .start-arg .given .0) (c .before .before .before .before .start .ensures) in
+    let u = c .before .before .decrypt in
+    let all = ap₂ (λ (f : List ℕ → List ℕ) (p : List ℕ). decryptedBlocks (modeD (a .mode) f) p (a .work .now) (a .count)) same begun
+    ∙ sym (decrypted-here _ (a .iv .now) (a .work .now) (a .count) (c .before .before .before .before .before .before .before .before .before .before .before .before .before .before .before .before .before .before .before .before .before .before .before .before .before .before .before .before .before .before .before .before .before .if1 .left))
+    in
+    subst (λ (s : Decryption). Handed s (u .last .1 .1 .1 .1 .1 .1 .1 .0) (u .result)) all (u .ensures)
 
 pub decrypt-spec : {M : Type 1} → statement M
 decrypt-spec =
     tie.close
     (tie.spec
-    Inv-loop
-    μ-loop
     returns
     (λ c κs. search needs)
     (λ c κs. search needs)
     (λ c κs. search needs)
     (λ c κs. search needs)
     (λ c κs. search needs)
-    loop-holds
-    (λ c. search needs)
-    (λ c. search needs)
-    (λ c. search needs)
-    (λ c. search needs)
-    (λ c. search needs)
-    (λ c. search needs)
     (λ c κs. search needs)
     (λ c κs. search needs)
-    (λ c. search needs)
-    loop-again
+    (λ c κs. search needs)
+    (λ c κs. search needs)
+    (λ c κs. search needs)
     (λ c. search needs)
     returns-2)
