@@ -1,11 +1,12 @@
 -- A part of a memory, lent and stored over: the memory is cut before it and after it, and both cuts are found again.
-use Prim.Native.Nat.{ℕ, zero, suc, _+_, _-_, _≤_}
+use Prim.Native.Nat.{ℕ, _+_, _-_, _≤_}
 use mathlib.Core.Path.{_≡_, refl, sym, ap, ap₂, _∙_}
-use mathlib.Core.List.{List, [], _∷_, _++_, append-assoc, append-nil}
+use mathlib.Core.List.{List, _++_, append-assoc}
 use native.Mathlib.Omega.{arith}
-use lib.ListN.{length, take, drop, length-append, length-take, length-drop, drop-of-length-le}
-use lib.Seq.{take-all, take-at, take-take, drop-at, drop-drop}
+use lib.ListN.{length, take, drop, length-append, length-take, length-drop}
+use lib.Seq.{take-all, take-at, drop-at, drop-drop}
 use Rattle.words.specs.Slices.{copied}
+use Rattle.words.proofs.SliceLaws.{copied-over}
 
 -- the s bytes from i on, as the code lends them, and the memory with v in their place
 abbrev pub part : List ℕ → ℕ → ℕ → List ℕ
@@ -22,18 +23,6 @@ part-is l i s = ap (λ (n : ℕ). take n (drop i l)) (width i s)
 
 pub part-long : (l : List ℕ) (i s : ℕ) → i + s ≤ length l → length (part l i s) ≡ s
 part-long l i s h = ap length (part-is l i s) ∙ simp (length-take, length-drop) (omega arith)
-
--- a part of a part
-pub part-of : (k p m : ℕ) (l : List ℕ) → p + k ≤ m → take k (drop p (take m l)) ≡ take k (drop p l)
-part-of k zero m l h = take-take k m l (omega arith)
-part-of k (suc p) zero l h = absurd (omega arith)
-part-of k (suc p) (suc m) [] h = refl
-part-of k (suc p) (suc m) (x ∷ l) h = part-of k p m l (omega arith)
-
--- as many bytes as a part has, copied over it
-pub over : (l b : List ℕ) {v : List ℕ} → length b ≡ length l → v ≡ copied l b → v ≡ b
-over l b h e =
-    e ∙ ap₂ _++_ (take-all (length l) b (omega arith)) (drop-of-length-le l {i = length b} (omega arith)) ∙ append-nil b
 
 -- v, as long as the part, in its place; the memory then goes on from j
 module _ (l : List ℕ) (i s j : ℕ) (v : List ℕ) (next : i + s ≡ j) (fits : j ≤ length l) (h : length v ≡ s) where
@@ -62,17 +51,18 @@ pub three-stored : (l x y z : List ℕ) {u v w : List ℕ} → length l ≡ 48 �
 three-stored l x y z {u} {v} {w} hl hx hy hz eu ev ew =
     let l1 = around l 0 16 u in
     let l2 = around l1 16 16 v in
-    let pu : u ≡ x = over (part l 0 16) x (hx ∙ sym (part-long l 0 16 (omega arith))) eu in
+    let pu : u ≡ x = eu ∙ copied-over (part l 0 16) x (part-long l 0 16 (omega arith) ∙ sym hx) in
     let hu : length u ≡ 16 = ap length pu ∙ hx in
     let h1 : length l1 ≡ 48 = around-length l 0 16 16 u refl (omega arith) hu ∙ hl in
-    let pv : v ≡ y = over (part l1 16 16) y (hy ∙ sym (part-long l1 16 16 (omega arith))) ev in
+    let pv : v ≡ y = ev ∙ copied-over (part l1 16 16) y (part-long l1 16 16 (omega arith) ∙ sym hy) in
     let hv : length v ≡ 16 = ap length pv ∙ hy in
     let h2 : length l2 ≡ 48 = around-length l1 16 16 32 v refl (omega arith) hv ∙ h1 in
-    let pw : w ≡ z = over (part l2 32 16) z (hz ∙ sym (part-long l2 32 16 (omega arith))) ew in
+    let pw : w ≡ z = ew ∙ copied-over (part l2 32 16) z (part-long l2 32 16 (omega arith) ∙ sym hz) in
     let hw : length w ≡ 16 = ap length pw ∙ hz in
     let h3 = around-length l2 32 16 48 w refl (omega arith) hw ∙ h2 in
     sym (take-all 48 (around l2 32 16 w) (omega (arith, h3)))
     ∙ around-take l2 32 16 48 w refl (omega arith) hw
-    ∙ ap (λ (t : List ℕ). t ++ w) (around-take l1 16 16 32 v refl (omega arith) hv ∙ ap (λ (t : List ℕ). t ++ v) (around-take l 0 16 16 u refl (omega arith) hu))
+    ∙ ap (λ (t : List ℕ). t ++ w) (around-take l1 16 16 32 v refl (omega arith) hv)
+    ∙ ap (λ (t : List ℕ). (t ++ v) ++ w) (around-take l 0 16 16 u refl (omega arith) hu)
     ∙ append-assoc u v w
     ∙ ap₂ _++_ pu (ap₂ _++_ pv pw)

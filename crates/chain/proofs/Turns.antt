@@ -8,6 +8,7 @@ use lib.ListN.{length, take, drop, take-append-drop, length-append, length-take,
 use lib.Seq.{take-all, drop-drop}
 use Rattle.words.specs.Numbers.{Bytes, Sized}
 use Rattle.words.proofs.ByteLaws.{bytes-take, bytes-drop}
+use Rattle.words.proofs.SliceLaws.{copied-over, part-of}
 use Rattle.twofish.specs.Twofish.{blockOf, blockBytes}
 use Rattle.twofish.specs.declared.Block.{Block}
 use Rattle.twofish.specs.declared.Three.{Three}
@@ -21,7 +22,7 @@ use Rattle.chain.specs.Modes.{decrypted}
 use Rattle.chain.proofs.Through.{through, taken, through-d}
 use Rattle.chain.proofs.MemoryLaws.{all-decrypted, handed-text, handed-count}
 use Rattle.chain.proofs.BlockLaws.{words-e, words-d}
-use Rattle.chain.proofs.InPlace.{part, around, part-is, part-of, over, around-take, around-drop, around-length}
+use Rattle.chain.proofs.InPlace.{part, around, part-is, around-take, around-drop, around-length}
 
 -- the block of a memory from i on
 pub block-sized : {l : List ℕ} (i : ℕ) → Bytes l → i + 16 ≤ length l → Sized 16 (take 16 (drop i l))
@@ -167,7 +168,7 @@ module _ (mode : Mode) (F : Block → Block) (n : ℕ) (first l : List ℕ) wher
         ∙ ap (λ (z : List ℕ). blockBytes (F (chained mode prev (blockOf z)))) b
         ∙ words-e F mode (take 16 (drop i l)) prev h (o .words)
         in
-        let stored : v ≡ blockBytes q = over (part w i 16) (blockBytes q) (block-bytes-sized q .long ∙ sym (ap length b ∙ h .long)) (u .memory) in
+        let stored : v ≡ blockBytes q = u .memory ∙ copied-over (part w i 16) (blockBytes q) (ap length b ∙ h .long ∙ sym (block-bytes-sized q .long)) in
         subst (λ (x : List ℕ). Encrypting m j (around w i 16 x) q) (sym stored)
         (turned-next f f n first l o 16 j m (blockBytes q) q e k (block-bytes-sized q .long) hq
         (ap (λ (x : ℕ). through f f x (blockBytes prev) (drop i l)) c ∙ ap₂ (λ (y r : List ℕ). y ++ through f f m y r) (sym made) (rest l i 16 e)))
@@ -185,7 +186,7 @@ module _ (mode : Mode) (F : Block → Block) (n : ℕ) (first l : List ℕ) wher
         ap (λ (z : Block). blockBytes (chained mode prev (F z))) read ∙ words-d F mode (take 16 (drop i l)) prev
         in
         let same : blockBytes q ≡ take 16 (drop i l) = ap blockBytes read ∙ bytes-block (take 16 (drop i l)) h in
-        let stored : v ≡ y = over (part w i 16) y (hy ∙ sym (ap length b ∙ h .long)) (u .memory) in
+        let stored : v ≡ y = u .memory ∙ copied-over (part w i 16) y (ap length b ∙ h .long ∙ sym hy) in
         subst (λ (x : List ℕ). Decrypting m j (around w i 16 x) q) (sym stored)
         (turned-next f taken n first l o 16 j m y q e k hy (subst Words (sym read) (block-words (take 16 (drop i l)) (h .bytes)))
         (ap (λ (x : ℕ). through f taken x (blockBytes prev) (drop i l)) c

@@ -1,25 +1,16 @@
 -- No proper prefix of a safe is a safe: its marker would stand, aligned, within the encrypted body of the whole, where no block is the marker.
-use Prim.Native.Nat.{ℕ, _+_, _*_, _/_, _<_, _≤_}
+use Prim.Native.Nat.{ℕ, _+_, _*_, _/_, _<_}
 use mathlib.Core.Path.{_≡_, refl, sym, ap, _∙_}
 use mathlib.Core.List.{List, _++_}
 use native.Mathlib.Omega.{arith}
-use lib.ListN.{length, take, drop, length-drop, take-append-drop}
+use lib.ListN.{length, take, drop, length-drop}
 use lib.Seq.{drop-drop, take-at, drop-at, take-append-le, drop-append-le, length-take-le}
+use Rattle.words.proofs.SliceLaws.{part-of}
 use Rattle.file.specs.Layout.{marker}
 use Rattle.file.specs.Edition.{Edition, Laws}
 use Rattle.file.specs.Description.{IsSafe, cbc}
 use Rattle.file.proofs.Markers.{marker-sized}
 use Rattle.file.proofs.Accepted.{file-long, tail-is, cbc-sized}
-
--- a part of a prefix is a part of the whole
-in-prefix : (k j m : ℕ) (l : List ℕ) → k ≤ length l → j + m ≤ k → take m (drop j (take k l)) ≡ take m (drop j l)
-in-prefix k j m l h i =
-    let n = length-take-le k l h in
-    let d = length-drop j (take k l) in
-    sym
-    (ap (λ (x : List ℕ). take m (drop j x)) (sym (take-append-drop k l))
-    ∙ ap (take m) (drop-append-le j (take k l) (drop k l) (omega arith))
-    ∙ take-append-le m (drop j (take k l)) (drop k l) (omega arith))
 
 -- block i of what stands from offset 152 on
 abbrev block : ℕ → List ℕ → List ℕ
@@ -67,6 +58,6 @@ module _ (E : Edition) (X : Laws E) where
       let i : ℕ = length body′ / 16 in
       let moved : block i (take k file) ≡ block i file =
       ap (take 16) (drop-drop (16 * i) 152 (take k file))
-      ∙ in-prefix k (152 + 16 * i) 16 file (omega arith) (omega arith)
+      ∙ part-of 16 (152 + 16 * i) k file (omega arith)
       ∙ ap (take 16) (sym (drop-drop (16 * i) 152 file)) in
       within pass file salt iter K L iv body z i (omega arith) (sym moved ∙ behind pass′ (take k file) salt′ iter′ K′ L′ iv′ body′ z′)

@@ -1,16 +1,17 @@
 -- What document 02's Q-6 says of import, of calls of `import` and `row`, each taken by its contract alone: by the laws of a table and its rows (Tables).
-use Prim.Native.Nat.{ℕ, zero, suc, _+_, _*_, _≤_}
+use Prim.Native.Nat.{ℕ, _+_, _*_, _≤_}
 use mathlib.Core.Path.{_≡_, refl, sym, ap, subst, _∙_}
 use mathlib.Core.Bool.{Bool, true, false, cond}
 use mathlib.Core.Logic.{_↔_}
-use mathlib.Core.List.{List, [], _∷_, _++_, append-assoc}
+use mathlib.Core.List.{List, _∷_, _++_, append-assoc}
 use native.Mathlib.Nat.{zero-add}
 use native.Mathlib.Omega.{arith}
 use lib.Dec.{leb}
 use lib.ListN.{length, take, drop, length-append, take-append-drop}
-use lib.Seq.{take-take, drop-drop, take-append-seam}
+use lib.Seq.{drop-drop, take-append-seam}
 use borrow.Author.Tests.{leb-true, leb-false, lt-leb}
 use Rattle.words.proofs.EachLaws.{each-middle}
+use Rattle.words.proofs.SliceLaws.{part-of}
 use Rattle.words.specs.Numbers.{Bytes}
 use Rattle.rows.specs.Login.{Login, rowOf, tableOf}
 use Rattle.rows.specs.Fit.{Fits}
@@ -58,12 +59,6 @@ module _ {t : List ℕ} {a : Imported} (c : Imports t a) where
   )
 
 -- a column of a row, where it stands in the table
-part-of : (k p m : ℕ) (l : List ℕ) → p + k ≤ m → take k (drop p (take m l)) ≡ take k (drop p l)
-part-of k zero m l h = take-take k m l (omega arith)
-part-of k (suc p) zero l h = absurd (omega arith)
-part-of k (suc p) (suc m) [] h = refl
-part-of k (suc p) (suc m) (x ∷ l) h = part-of k p m l (omega arith)
-
 column-at : (t : List ℕ) (n p m : ℕ) → p + m ≤ 256 → column p m (rowAt t n) ≡ take m (drop (256 * n + p) t)
 column-at t n p m h = part-of m p 256 (drop (256 * n) t) h ∙ ap (take m) (drop-drop p (256 * n) t)
 

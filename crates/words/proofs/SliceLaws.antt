@@ -1,8 +1,8 @@
--- What the loops over slices hold: a copy as far as it has come, and a comparison as far as it has come; and what a part put after another leaves. By recursion on the list, and by the lengths of its parts.
+-- What the loops over slices hold: a copy as far as it has come, and a comparison as far as it has come; and what a part put after another leaves, and a part of a part is. By recursion on the list, and by the lengths of its parts.
 use mathlib.Core.Path.{_≡_, refl, sym, ap, ap₂, _∙_}
 use mathlib.Core.Bool.{Bool, true, false, cond}
 use mathlib.Core.List.{List, [], _∷_, _++_, append-assoc, append-nil}
-use Prim.Native.Nat.{ℕ, _+_, _<_, _≤_}
+use Prim.Native.Nat.{ℕ, zero, suc, _+_, _<_, _≤_}
 use native.Mathlib.Omega.{arith}
 use native.Mathlib.Nat.{zero-add}
 use native.Mathlib.Numerals.{add-one}
@@ -10,7 +10,7 @@ use borrow.Rule.Slice.PartMut.{putMid}
 use borrow.Author.Tests.{eq-eqb, ne-eqb, eqb-true}
 use lib.Dec.{eqb}
 use lib.ListN.{length, getD, take, drop, replicate, length-replicate, drop-of-length-le}
-use lib.Seq.{paste, take-all, take-at, drop-at, drop-cons, drop-length}
+use lib.Seq.{paste, take-all, take-at, take-take, drop-at, drop-cons, drop-length}
 use Rattle.words.specs.Slices.{copied, same}
 
 -- all of s is copied, or d is full
@@ -37,6 +37,13 @@ copied-whole n s h = copied-over (replicate n 0) s (length-replicate n 0 ∙ sym
 -- x, which is q, put into the n bytes right after p
 pub put-next : (p q d x : List ℕ) (m n : ℕ) → length p ≡ m → x ≡ q → putMid m n (p ++ d) x ≡ (p ++ q) ++ drop n d
 put-next p q d x m n h e = rw (take-at p d m h, drop-at p d m h, e, append-assoc p q (drop n d))
+
+-- a part of a start is a part of the whole
+pub part-of : (k p m : ℕ) (l : List ℕ) → p + k ≤ m → take k (drop p (take m l)) ≡ take k (drop p l)
+part-of k zero m l h = take-take k m l (omega arith)
+part-of k (suc p) zero l h = absurd (omega arith)
+part-of k (suc p) (suc m) [] h = refl
+part-of k (suc p) (suc m) (x ∷ l) h = part-of k p m l (omega arith)
 
 pub same-refl : (s : List ℕ) → same s s ≡ true
 unfolding same

@@ -1,7 +1,6 @@
 -- `chain::block::encrypt` meets its contract: the block is read, chained and encrypted, and its cipher block stored over it.
 use Rattle.twofish.specs.Tabled.{tabledEncrypt}
 use Rattle.chain.specs.Blocks.{chained}
-use Rattle.twofish.specs.declared.Block.{Block}
 use mathlib.Core.Path.{ap, _∙_}
 use borrow.Author.Needs.{needs}
 use Rattle.chain.proofs.block.encrypt.Statement.{statement}

@@ -1,5 +1,5 @@
 -- `chain::blocks::decrypt` meets its contract: after j turns the memory has the definition's first 3 j blocks of text, and then what is left of the cipher text, which `decrypt_singly` decrypts; the count has gone on by 3 j.
-use Prim.Native.Nat.{ℕ, suc, _+_, _-_, _*_, _/_, _%_, _^_, _≤_}
+use Prim.Native.Nat.{ℕ, _+_, _-_, _*_, _/_, _%_, _^_, _≤_}
 use native.Mathlib.Omega.{arith}
 use Rattle.words.specs.Numbers.{Bytes}
 use Rattle.words.proofs.ByteLaws.{bytes-of}
@@ -22,7 +22,9 @@ abbrev μ-loop : tie.MeasureT-loop
 μ-loop mode g0 g1 g2 g3 k work₀ count turns prev₀ c₀ turn₀ work prev c turn = turns - turn
 
 loop-holds : tie.Need-loop-holds Inv-loop μ-loop
-loop-holds c = (turned-start _ _ _ _ _ (omega arith) (record { fa = omega (arith, c .before .good); fb = omega (arith, c .before .good); fc = omega (arith, c .before .good); fd = omega (arith, c .before .good) }), omega arith, omega arith)
+loop-holds c =
+    let o = c .before .good in
+    (turned-start _ _ _ _ _ (omega arith) (record { fa = omega (arith, o); fb = omega (arith, o); fc = omega (arith, o); fd = omega (arith, o) }), omega arith, omega arith)
 
 decrypt-requires : tie.Need-decrypt-requires Inv-loop μ-loop
 decrypt-requires c κs =
@@ -34,12 +36,13 @@ loop-again c =
     let u = c .before .before .before .before .before .decrypt in
     let turn = c .before .before .before .before .before .before .before in
     let l = turn .before .loop in
+    let less = turn .loop-test .taken in
     let begun = turn .before .before in
     let a = begun .before .args in
     let bytes : Bytes (a .work .now) = bytes-of (a .work .now) (λ i. omega (arith, begun .slice-known .given i)) in (
-      three-turn (a .mode) _ _ _ (a .work .now) bytes _ _ (l .inv .0) (omega (arith, turn .loop-test .taken)) (omega arith) (omega (arith, turn .loop-test .taken))
+      three-turn (a .mode) _ _ _ (a .work .now) bytes _ _ (l .inv .0) (omega (arith, less)) (omega arith) (omega (arith, less))
           (u .result) (u .last .1 .1 .1 .1 .1 .1 .1 .0) (u .ensures),
-      omega (arith, turn .loop-test .taken),
+      omega (arith, less),
       omega (arith, l .inv .2, c .before .before .wrapping-add-u64 .ensures, c .before .wrapping-add-u642 .ensures, c .wrapping-add-u643 .ensures),
     )
 

@@ -1,7 +1,7 @@
 -- `chain::blocks::decrypt_singly` meets its contract: after j turns the memory has the definition's first j blocks of text, and then what is left of the cipher text; the count has gone on by j.
 use mathlib.Core.Path.{_≡_, ap, ap₂, _∙_}
 use mathlib.Core.List.{List, _++_}
-use Prim.Native.Nat.{ℕ, suc, _+_, _-_, _*_, _/_, _%_, _^_, _≤_}
+use Prim.Native.Nat.{ℕ, _+_, _-_, _*_, _/_, _%_, _^_, _≤_}
 use native.Mathlib.Omega.{arith}
 use lib.ListN.{length, drop}
 use Rattle.words.specs.Numbers.{Bytes}
@@ -25,19 +25,22 @@ abbrev μ-loop : tie.MeasureT-loop
 μ-loop mode g0 g1 g2 g3 k work₀ count blocks prev₀ c₀ done₀ work prev c done = blocks - done
 
 loop-holds : tie.Need-loop-holds Inv-loop μ-loop
-loop-holds c = (turned-start _ _ _ _ _ (omega arith) (record { fa = omega (arith, c .before .good); fb = omega (arith, c .before .good); fc = omega (arith, c .before .good); fd = omega (arith, c .before .good) }), omega arith, omega arith)
+loop-holds c =
+    let o = c .before .good in
+    (turned-start _ _ _ _ _ (omega arith) (record { fa = omega (arith, o); fb = omega (arith, o); fc = omega (arith, o); fd = omega (arith, o) }), omega arith, omega arith)
 
 loop-again : tie.Need-loop-again Inv-loop μ-loop
 loop-again c =
     let u = c .before .before .before .decrypt in
     let turn = c .before .before .before .before .before in
     let l = turn .before .loop in
+    let less = turn .loop-test .taken in
     let begun = turn .before .before in
     let a = begun .before .args in
     let bytes : Bytes (a .work .now) = bytes-of (a .work .now) (λ i. omega (arith, begun .slice-known .given i)) in (
-      decrypt-turn (a .mode) _ _ _ (a .work .now) bytes _ _ (l .inv .0) (omega (arith, turn .loop-test .taken)) (omega arith) (omega (arith, turn .loop-test .taken))
+      decrypt-turn (a .mode) _ _ _ (a .work .now) bytes _ _ (l .inv .0) (omega (arith, less)) (omega arith) (omega (arith, less))
           (u .result) (u .last .1 .1 .1 .1 .1 .1 .1 .0) (u .ensures),
-      omega (arith, turn .loop-test .taken),
+      omega (arith, less),
       omega (arith, l .inv .2, c .wrapping-add-u64 .ensures),
     )
 

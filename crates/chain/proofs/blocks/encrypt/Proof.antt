@@ -1,13 +1,14 @@
 -- `chain::blocks::encrypt` meets its contract: after j turns the memory has the definition's first j cipher blocks, and then what is left of the text.
-use mathlib.Core.Path.{_≡_, ap, ap₂, _∙_}
+use mathlib.Core.Path.{_≡_, ap₂, _∙_}
 use mathlib.Core.List.{List, _++_}
-use Prim.Native.Nat.{ℕ, suc, _+_, _-_, _*_, _/_, _%_, _^_, _≤_}
+use Prim.Native.Nat.{ℕ, _-_, _*_, _/_, _≤_}
 use native.Mathlib.Omega.{arith}
 use lib.ListN.{length, drop}
 use Rattle.words.specs.Numbers.{Bytes}
 use Rattle.words.proofs.ByteLaws.{bytes-of}
 use Rattle.twofish.specs.Twofish.{blockBytes}
 use Rattle.twofish.specs.Tabled.{tabledEncrypt}
+use Rattle.twofish.proofs.Rounds.{Words}
 use Rattle.chain.specs.Blocks.{onBytes, modeE, encryptedBlocks}
 use Rattle.chain.proofs.Through.{through-e}
 use Rattle.chain.proofs.Turns.{Encrypting, turned-start, turned-end, encrypt-turn}
@@ -23,19 +24,23 @@ abbrev μ-loop : tie.MeasureT-loop
 μ-loop mode g0 g1 g2 g3 k work₀ n prev₀ j₀ work prev j = n - j
 
 loop-holds : tie.Need-loop-holds Inv-loop μ-loop
-loop-holds c = (turned-start _ _ _ _ _ (omega arith) (record { fa = omega (arith, c .before .good); fb = omega (arith, c .before .good); fc = omega (arith, c .before .good); fd = omega (arith, c .before .good) }), omega arith)
+loop-holds c =
+    let o = c .before .good in
+    (turned-start _ _ _ _ _ (omega arith) (record { fa = omega (arith, o); fb = omega (arith, o); fc = omega (arith, o); fd = omega (arith, o) }), omega arith)
 
 loop-again : tie.Need-loop-again Inv-loop μ-loop
 loop-again c =
     let u = c .before .before .encrypt in
+    let fine : Words (u .result) = record { fa = omega (arith, u .ok); fb = omega (arith, u .ok); fc = omega (arith, u .ok); fd = omega (arith, u .ok) } in
     let turn = c .before .before .before .before in
     let l = turn .before .loop in
+    let less = turn .loop-test .taken in
     let begun = turn .before .before in
     let a = begun .before .args in
     let bytes : Bytes (a .work .now) = bytes-of (a .work .now) (λ i. omega (arith, begun .slice-known .given i)) in (
-      encrypt-turn (a .mode) _ _ _ (a .work .now) bytes _ _ (l .inv .0) (omega (arith, turn .loop-test .taken)) (omega arith) (omega (arith, turn .loop-test .taken))
-          (u .result) (u .last .1 .1 .1 .1 .1 .1 .1 .0) (record { fa = omega (arith, u .ok); fb = omega (arith, u .ok); fc = omega (arith, u .ok); fd = omega (arith, u .ok) }) (u .ensures),
-      omega (arith, turn .loop-test .taken),
+      encrypt-turn (a .mode) _ _ _ (a .work .now) bytes _ _ (l .inv .0) (omega (arith, less)) (omega arith) (omega (arith, less))
+          (u .result) (u .last .1 .1 .1 .1 .1 .1 .1 .0) fine (u .ensures),
+      omega (arith, less),
     )
 
 returns : tie.Need-returns Inv-loop μ-loop

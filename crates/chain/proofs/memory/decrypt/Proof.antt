@@ -19,16 +19,24 @@ returns c =
 
 returns-2 : tie.Need-returns-2
 returns-2 c =
-    let a = c .before .before .before .before .before .before .before .before .before .before .before .before .before .before .before .before .before .before .before .before .before .before .before .before .before .before .before .before .before .before .before .before .before .before .before .args in
-    let made = c .before .before .before .before .before .before .before .before .before .before .before .before .before .before .before .before .before .before .before .before .before .before .before in
-    let tables = made .before .before .before .before .before .before .before in
-    let same = tabled-dec (a .key .now) (tables .before .before .table .ensures) (tables .before .table2 .ensures) (tables .box-key .ensures)
-    (made .before .before .before .before .subkeys .ensures) (made .fill .ensures) (c .before .before .before .before .before .before .before .before .before .before .before .before .before .before .before .before .before .before .before .fill2 .ensures) (c .before .before .before .before .before .before .before .before .before .before .before .before .before .before .before .fill3 .ensures) (c .before .before .before .before .before .before .before .before .before .before .before .fill4 .ensures) in
-    let begun = iv-bytes (a .iv .now) (c .before .before .before .before .before .start-arg .given .0) (c .before .before .before .before .start .ensures) in
-    let u = c .before .before .decrypt in
-    let all = ap₂ (λ (f : List ℕ → List ℕ) (p : List ℕ). decryptedBlocks (modeD (a .mode) f) p (a .work .now) (a .count)) same begun
-    ∙ sym (decrypted-here _ (a .iv .now) (a .work .now) (a .count) (c .before .before .before .before .before .before .before .before .before .before .before .before .before .before .before .before .before .before .before .before .before .before .before .before .before .before .before .before .before .before .before .before .before .if1 .left))
+    let fourth = c .before .before .before .before .before .before .before .before .before .before .before in
+    let third = fourth .before .before .before .before in
+    let second = third .before .before .before .before in
+    let first = second .before .before .before .before in
+    let keyed = first .before .before .before .before in
+    let tables = keyed .before .before .before in
+    let tested = tables .before .before .before in
+    let a = tested .before .before .args in
+    let same =
+    tabled-dec (a .key .now) (tables .before .before .table .ensures) (tables .before .table2 .ensures) (tables .box-key .ensures) (keyed .subkeys .ensures)
+    (first .fill .ensures) (second .fill2 .ensures) (third .fill3 .ensures) (fourth .fill4 .ensures)
     in
+    let begun = iv-bytes (a .iv .now) (c .before .before .before .before .before .start-arg .given .0) (c .before .before .before .before .start .ensures) in
+    let all =
+    ap₂ (λ (f : List ℕ → List ℕ) (p : List ℕ). decryptedBlocks (modeD (a .mode) f) p (a .work .now) (a .count)) same begun
+    ∙ sym (decrypted-here _ (a .iv .now) (a .work .now) (a .count) (tested .if1 .left))
+    in
+    let u = c .before .before .decrypt in
     subst (λ (s : Decryption). Handed s (u .last .1 .1 .1 .1 .1 .1 .1 .0) (u .result)) all (u .ensures)
 
 pub decrypt-spec : {M : Type 1} → statement M

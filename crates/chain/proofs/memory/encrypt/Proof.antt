@@ -17,15 +17,22 @@ returns c =
 
 returns-2 : tie.Need-returns-2
 returns-2 c =
-    let a = c .before .before .before .before .before .before .before .before .before .before .before .before .before .before .before .before .before .before .before .before .before .before .before .before .before .before .before .before .before .before .before .before .before .before .before .args in
-    let made = c .before .before .before .before .before .before .before .before .before .before .before .before .before .before .before .before .before .before .before .before .before .before .before in
-    let tables = made .before .before .before .before .before .before .before in
-    let same = tabled-enc (a .key .now) (tables .before .before .table .ensures) (tables .before .table2 .ensures) (tables .box-key .ensures)
-    (made .before .before .before .before .subkeys .ensures) (made .fill .ensures) (c .before .before .before .before .before .before .before .before .before .before .before .before .before .before .before .before .before .before .before .fill2 .ensures) (c .before .before .before .before .before .before .before .before .before .before .before .before .before .before .before .fill3 .ensures) (c .before .before .before .before .before .before .before .before .before .before .before .fill4 .ensures) in
+    let fourth = c .before .before .before .before .before .before .before .before .before .before .before in
+    let third = fourth .before .before .before .before in
+    let second = third .before .before .before .before in
+    let first = second .before .before .before .before in
+    let keyed = first .before .before .before .before in
+    let tables = keyed .before .before .before in
+    let tested = tables .before .before .before in
+    let a = tested .before .before .args in
+    let same =
+    tabled-enc (a .key .now) (tables .before .before .table .ensures) (tables .before .table2 .ensures) (tables .box-key .ensures) (keyed .subkeys .ensures)
+    (first .fill .ensures) (second .fill2 .ensures) (third .fill3 .ensures) (fourth .fill4 .ensures)
+    in
     let begun = iv-bytes (a .iv .now) (c .before .before .before .before .before .start-arg .given .0) (c .before .before .before .before .start .ensures) in
     c .before .before .encrypt .ensures
     ∙ ap₂ (λ (f : List ℕ → List ℕ) (p : List ℕ). encryptedBlocks (modeE (a .mode) f) p (a .work .now)) same begun
-    ∙ sym (encrypted-here _ (a .iv .now) (a .work .now) (c .before .before .before .before .before .before .before .before .before .before .before .before .before .before .before .before .before .before .before .before .before .before .before .before .before .before .before .before .before .before .before .before .before .if1 .left))
+    ∙ sym (encrypted-here _ (a .iv .now) (a .work .now) (tested .if1 .left))
 
 pub encrypt-spec : {M : Type 1} → statement M
 encrypt-spec =
