@@ -13,20 +13,27 @@
 #include <gcrypt.h>
 #endif
 
+/* Their SHA-256 goes without the instructions that a processor has for it. */
+#ifdef __x86_64__
+#define MASKED ", no SHA-NI"
+#else
+#define MASKED ", SHA-2 masked"
+#endif
+
 #ifdef HAVE_OPENSSL
-#define OPENSSL(f) {"OpenSSL, no SHA-NI", f, 0},
+#define OPENSSL(f) {"OpenSSL" MASKED, f, 0},
 #else
 #define OPENSSL(f)
 #endif
 #ifdef HAVE_GCRYPT
-#define GCRYPT(f) {"libgcrypt, no SHA-NI", f, 0},
+#define GCRYPT(f) {"libgcrypt" MASKED, f, 0},
 #define GCRYPT_TWOFISH(f) {"libgcrypt", f##_gcrypt, 0},
 #else
 #define GCRYPT(f)
 #define GCRYPT_TWOFISH(f)
 #endif
 #ifdef HAVE_NETTLE
-#define NETTLE(f) {"nettle, no SHA-NI", f, 0},
+#define NETTLE(f) {"nettle" MASKED, f, 0},
 #define NETTLE_TWOFISH(f) {"nettle", f##_nettle, 0},
 #else
 #define NETTLE(f)
@@ -159,6 +166,7 @@ int main(int count, char **arguments)
     fill_message();
 #ifdef HAVE_GCRYPT
     gcry_control(GCRYCTL_DISABLE_HWF, "intel-shaext", NULL);
+    gcry_control(GCRYCTL_DISABLE_HWF, "arm-sha2", NULL);
     gcry_check_version(NULL);
     gcry_control(GCRYCTL_INITIALIZATION_FINISHED, 0);
 #endif
