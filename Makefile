@@ -8,10 +8,14 @@
 
 TALC := rust/target/release/talc
 
-# The library is for x86-64: another machine runs it under an emulator.
+MEASURED := library probe
+
+# The library is for x86-64: another machine runs it under an emulator, and measures what the same
+# modules come to when they are compiled for it.
 ifneq ($(shell uname -m),x86_64)
 ELSEWHERE := ../tools/elsewhere
 TALC := qemu-x86_64 rust/target/x86_64-unknown-linux-gnu/release/talc
+MEASURED := native
 endif
 
 logins: library
@@ -27,7 +31,10 @@ probe:
 test:
 	@tools/test
 
-bench agree: library probe
+native:
+	tools/native talcfeather probe
+
+bench agree: $(MEASURED)
 	@$(MAKE) --no-print-directory -C bench $@
 
-.PHONY: logins library probe test bench agree
+.PHONY: logins library probe native test bench agree

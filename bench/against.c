@@ -1,8 +1,8 @@
 /*
- * This tree's library beside another's, in one run: SHA-256 and stretching; the HMAC over the
- * fields of a body, judging it, reading and writing it. Both are linked, each under names of its
- * own (the Makefile's `against`); the HMAC's is a function inside the library, and not part of its
- * face.
+ * This tree's library beside another's, in one run: SHA-256, stretching and Twofish; whole
+ * readings; the HMAC over the fields of a body, judging it, reading and writing it. Both are linked,
+ * each under names of its own (the Makefile's `against`); the HMAC's is a function inside the
+ * library, and not part of its face.
  */
 #include <stdio.h>
 #include <string.h>
@@ -63,8 +63,8 @@ struct slice {
     static void side##_reads(uint8_t out[32])                                                      \
     {                                                                                              \
         uint8_t answer[96];                                                                        \
-        uint32_t number = side##_talc_read(safe, body_len + 200, message, 8, 4096, workspace,      \
-                                           body_len, answer);                                      \
+        uint32_t number = side##_talc_read(safe, body_len + 200, message, 8, UINT32_MAX,           \
+                                           workspace, body_len, answer);                           \
         if (number != 0)                                                                           \
             stop("a safe was refused");                                                            \
         memcpy(out, answer + 64, 32);                                                              \
@@ -83,6 +83,48 @@ struct slice {
 SIDE(here)
 SIDE(there)
 
+typedef uint64_t decrypts(const uint8_t key[32], const uint8_t iv[16], uint8_t *text, size_t n);
+typedef void encrypts(const uint8_t key[32], const uint8_t iv[16], const uint8_t *from, size_t n,
+                      uint8_t *to, size_t room);
+
+static void decrypt_text(decrypts *decrypt, uint8_t out[32])
+{
+    uint8_t key[32];
+    key_number(key, 1);
+    memcpy(workspace, message, TEXT);
+    decrypt(key, iv, workspace, TEXT);
+    memcpy(out, workspace + TEXT - 32, 32);
+}
+
+static void encrypt_text(encrypts *encrypt, uint8_t out[32])
+{
+    uint8_t key[32];
+    key_number(key, 1);
+    encrypt(key, iv, message, TEXT, workspace, TEXT);
+    memcpy(out, workspace + TEXT - 32, 32);
+}
+
+static void many_keys(decrypts *decrypt, size_t n, uint8_t out[32])
+{
+    uint8_t key[32], t[64] = {0};
+    for (int i = 0; i < KEYS; i++) {
+        key_number(key, i);
+        decrypt(key, iv, t, n);
+    }
+    memcpy(out, t, 16);
+}
+
+#define CIPHER(side)                                                                               \
+    decrypts side##_probe_decrypt;                                                                 \
+    encrypts side##_probe_encrypt;                                                                 \
+    static void side##_decrypts(uint8_t out[32]) { decrypt_text(side##_probe_decrypt, out); }      \
+    static void side##_encrypts(uint8_t out[32]) { encrypt_text(side##_probe_encrypt, out); }      \
+    static void side##_keys(uint8_t out[32]) { many_keys(side##_probe_decrypt, 16, out); }         \
+    static void side##_keys_4(uint8_t out[32]) { many_keys(side##_probe_decrypt, 64, out); }
+
+CIPHER(here)
+CIPHER(there)
+
 #define BOTH(f) {{"here", here_##f, 0}, {"there", there_##f, 0}}
 
 static void hold(const char *what, size_t notes, int small)
@@ -94,7 +136,7 @@ static void hold(const char *what, size_t notes, int small)
         {"Reading, ITER 2,048", "MB/s", 0, 5, NULL, BOTH(reads)},
         {"Writing, ITER 2,048", "MB/s", 0, 5, NULL, BOTH(writes)},
     };
-    make_body(4194096, notes, small);
+    make_body(LONG, notes, small);
     make_safe(2048);
     printf("\n%s\n", what);
     for (size_t i = 0; i < sizeof contests / sizeof contests[0]; i++) {
@@ -103,12 +145,22 @@ static void hold(const char *what, size_t notes, int small)
     }
 }
 
-static void hold_hashes(void)
+/* Layers, and whole readings. */
+static void hold_lower(void)
 {
     struct contest contests[] = {
         {"SHA-256, one long message", "MB/s", MESSAGE / 1e6, 21, NULL, BOTH(hashes)},
         {"SHA-256, the same in pieces of 50 bytes", "MB/s", MESSAGE / 1e6, 21, NULL, BOTH(pieces)},
         {"Stretching: hashes of 32 bytes", "M/s", CHAIN / 1e6, 21, NULL, BOTH(stretches)},
+        {"Twofish, CBC decryption", "MB/s", TEXT / 1e6, 21, NULL, BOTH(decrypts)},
+        {"Twofish, CBC encryption", "MB/s", TEXT / 1e6, 21, NULL, BOTH(encrypts)},
+        {"Twofish, key set-up and one block", "k/s", KEYS / 1e3, 21, NULL, BOTH(keys)},
+        {"Twofish, key set-up and four blocks", "k/s", KEYS / 1e3, 21, NULL, BOTH(keys_4)},
+        {"Reading the shortest body, ITER 2,048", "/s", 1, 99, shortest, BOTH(reads)},
+        {"Reading a body of 1 MB, ITER 2,048", "/s", 1, 9, short_at_once, BOTH(reads)},
+        {"Reading a body of 1 MB, ITER 262,144", "/s", 1, 9, short_stretched, BOTH(reads)},
+        {"Reading a body of 4 MB, ITER 2,048", "/s", 1, 5, long_at_once, BOTH(reads)},
+        {"Reading a body of 4 MB, ITER 262,144", "/s", 1, 5, long_stretched, BOTH(reads)},
     };
     for (size_t i = 0; i < sizeof contests / sizeof contests[0]; i++)
         contest_hold(&contests[i]);
@@ -119,7 +171,7 @@ int main(void)
     fill_message();
     printf("best of several rounds, interleaved; the last column is the speed as a multiple of\n"
            "the speed here\n");
-    hold_hashes();
+    hold_lower();
     hold("4 MB of small fields", 0, 4);
     hold("4 MB of records with notes of 400 bytes", 400, 4);
     return 0;

@@ -22,8 +22,6 @@
 #define LONGEST 4096
 
 void probe_hmac(const uint8_t *key, size_t key_len, const uint8_t *m, size_t n, uint8_t out[32]);
-void probe_encrypt(const uint8_t key[32], const uint8_t iv[16], const uint8_t *from, size_t n,
-                   uint8_t *to, size_t room);
 
 static uint8_t text[LONGEST], encrypted[LONGEST], decrypted[LONGEST];
 static uint8_t key[32], vector[16];

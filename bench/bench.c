@@ -13,21 +13,28 @@
 #include <gcrypt.h>
 #endif
 
+/* Their SHA-256 goes without the instructions that a processor has for it. */
+#ifdef __x86_64__
+#define MASKED ", no SHA-NI"
+#else
+#define MASKED ", SHA-2 masked"
+#endif
+
 #ifdef HAVE_OPENSSL
-#define OPENSSL(f) {"OpenSSL, no SHA-NI", f, 0},
+#define OPENSSL(f) {"OpenSSL" MASKED, f, 0},
 #else
 #define OPENSSL(f)
 #endif
 #ifdef HAVE_GCRYPT
-#define GCRYPT(f) {"libgcrypt, no SHA-NI", f, 0},
-#define GCRYPT_TWOFISH(f) {"libgcrypt", f, 0},
+#define GCRYPT(f) {"libgcrypt" MASKED, f, 0},
+#define GCRYPT_TWOFISH(f) {"libgcrypt", f##_gcrypt, 0},
 #else
 #define GCRYPT(f)
 #define GCRYPT_TWOFISH(f)
 #endif
 #ifdef HAVE_NETTLE
-#define NETTLE(f) {"nettle, no SHA-NI", f, 0},
-#define NETTLE_TWOFISH(f) {"nettle", f, 0},
+#define NETTLE(f) {"nettle" MASKED, f, 0},
+#define NETTLE_TWOFISH(f) {"nettle", f##_nettle, 0},
 #else
 #define NETTLE(f)
 #define NETTLE_TWOFISH(f)
@@ -46,7 +53,11 @@
 #define PROVED(f) {"proved", f, 0},
 #define PORTABLE(f) {"portable C, gcc -O3", f, 0},
 #define MB(n) ((n) / 1e6)
-#define WHOLE(title, prepare) {title, "/s", 1, 3, prepare, {PROVED(read_proved) OTHERS}}
+#define TWOFISH(what, unit, work, f) \
+    {"Twofish, " what, unit, work, 9, NULL, \
+     {PROVED(f##_proved) GCRYPT_TWOFISH(f) NETTLE_TWOFISH(f)}}
+#define WHOLE(title, rounds, prepare) \
+    {title, "/s", 1, rounds, prepare, {PROVED(read_proved) OTHERS}}
 #define REPLAY(over, prepare) \
     {"Replaying 1,000,000 records, " over, "M/s", RECORDS / 1e6, 3, prepare, \
      {PROVED(replay_proved) SQLITE(replay_sqlite)}}
@@ -59,18 +70,6 @@
     {"Importing the table of " what, "M/s", MILLIONS(length, login), 9, prepare, \
      {PROVED(import_proved)}}
 
-enum { SHORT = 1u << 20, LONG = 4194096 };
-
-static void safe_of(size_t length, uint32_t iter)
-{
-    make_body(length, 400, 4);
-    make_safe(iter);
-}
-
-static void short_at_once(void) { safe_of(SHORT, 2048); }
-static void short_stretched(void) { safe_of(SHORT, 262144); }
-static void long_at_once(void) { safe_of(LONG, 2048); }
-static void long_stretched(void) { safe_of(LONG, 262144); }
 static void small_fields(void) { make_body(LONG, 0, 4); }
 static void one_uuid(void) { make_trace(1, 0); }
 static void some_random(void) { make_trace(64, 0); }
@@ -95,14 +94,16 @@ static struct contest contests[] = {
     {"Stretching: hashes of 32 bytes", "M/s", CHAIN / 1e6, 9, NULL,
      {PROVED(chain_proved) PORTABLE(chain_portable) OPENSSL(chain_openssl) GCRYPT(chain_gcrypt)
       NETTLE(chain_nettle)}},
-    {"Twofish, CBC decryption", "MB/s", MB(TEXT), 9, NULL,
-     {PROVED(cbc_proved) GCRYPT_TWOFISH(cbc_gcrypt) NETTLE_TWOFISH(cbc_nettle)}},
-    {"Twofish, key set-up and one block", "k/s", KEYS / 1e3, 9, NULL,
-     {PROVED(keys_proved) GCRYPT_TWOFISH(keys_gcrypt) NETTLE_TWOFISH(keys_nettle)}},
-    WHOLE("Reading a body of 1 MB, ITER 2,048", short_at_once),
-    WHOLE("Reading a body of 1 MB, ITER 262,144", short_stretched),
-    WHOLE("Reading a body of 4 MB, ITER 2,048", long_at_once),
-    WHOLE("Reading a body of 4 MB, ITER 262,144", long_stretched),
+    TWOFISH("CBC decryption", "MB/s", MB(TEXT), cbc),
+    TWOFISH("CBC encryption", "MB/s", MB(TEXT), encrypted),
+    TWOFISH("key set-up and one block", "k/s", KEYS / 1e3, keys),
+    TWOFISH("key set-up and two blocks", "k/s", KEYS / 1e3, keys_2),
+    TWOFISH("key set-up and four blocks", "k/s", KEYS / 1e3, keys_4),
+    WHOLE("Reading the shortest body, ITER 2,048", 99, shortest),
+    WHOLE("Reading a body of 1 MB, ITER 2,048", 3, short_at_once),
+    WHOLE("Reading a body of 1 MB, ITER 262,144", 3, short_stretched),
+    WHOLE("Reading a body of 4 MB, ITER 2,048", 3, long_at_once),
+    WHOLE("Reading a body of 4 MB, ITER 262,144", 3, long_stretched),
     {"Judging a body of 4 MB, many small fields", "MB/s", MB(LONG), 9, small_fields,
      {PROVED(judge_proved)}},
     REPLAY("1 UUID", one_uuid),
@@ -165,6 +166,7 @@ int main(int count, char **arguments)
     fill_message();
 #ifdef HAVE_GCRYPT
     gcry_control(GCRYCTL_DISABLE_HWF, "intel-shaext", NULL);
+    gcry_control(GCRYCTL_DISABLE_HWF, "arm-sha2", NULL);
     gcry_check_version(NULL);
     gcry_control(GCRYCTL_INITIALIZATION_FINISHED, 0);
 #endif

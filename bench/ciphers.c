@@ -1,4 +1,4 @@
-/* Twofish: CBC decryption of one long text, and of single blocks under a new key each. */
+/* Twofish: CBC over one long text, both ways, and short texts decrypted, under a new key each. */
 #include <string.h>
 
 #include "contenders.h"
@@ -20,6 +20,7 @@ static void outcome_of(const uint8_t *t, size_t n, uint8_t out[32])
 }
 
 typedef void decrypts(const uint8_t *key, uint8_t *t, size_t n);
+typedef void encrypts(const uint8_t *key, const uint8_t *from, uint8_t *t, size_t n);
 
 static void one_text(decrypts *decrypt, uint8_t out[32])
 {
@@ -30,37 +31,70 @@ static void one_text(decrypts *decrypt, uint8_t out[32])
     outcome_of(text, TEXT, out);
 }
 
-static void many_keys(decrypts *decrypt, uint8_t out[32])
+static void one_encrypted(encrypts *encrypt, uint8_t out[32])
 {
-    uint8_t key[32], block[16] = {0};
+    uint8_t key[32];
+    key_number(key, 1);
+    encrypt(key, message, text, TEXT);
+    outcome_of(text, TEXT, out);
+}
+
+static void many_keys(decrypts *decrypt, size_t n, uint8_t out[32])
+{
+    uint8_t key[32], t[64] = {0};
     for (int i = 0; i < KEYS; i++) {
         key_number(key, i);
-        decrypt(key, block, 16);
+        decrypt(key, t, n);
     }
-    outcome_of(block, 16, out);
+    outcome_of(t, n, out);
 }
+
+/* What is timed of each library: the body of a file, decrypted and encrypted; a key for one block;
+   for two, as the shortest body is; for four, as K and L are. */
+#define TIMED(who)                                                                                 \
+    void cbc_##who(uint8_t out[32]) { one_text(decrypt_##who, out); }                              \
+    void encrypted_##who(uint8_t out[32]) { one_encrypted(encrypt_##who, out); }                   \
+    void keys_##who(uint8_t out[32]) { many_keys(decrypt_##who, 16, out); }                        \
+    void keys_2_##who(uint8_t out[32]) { many_keys(decrypt_##who, 32, out); }                      \
+    void keys_4_##who(uint8_t out[32]) { many_keys(decrypt_##who, 64, out); }
 
 static void decrypt_proved(const uint8_t *key, uint8_t *t, size_t n)
 {
     probe_decrypt(key, iv, t, n);
 }
 
-void cbc_proved(uint8_t out[32]) { one_text(decrypt_proved, out); }
-void keys_proved(uint8_t out[32]) { many_keys(decrypt_proved, out); }
+static void encrypt_proved(const uint8_t *key, const uint8_t *from, uint8_t *t, size_t n)
+{
+    probe_encrypt(key, iv, from, n, t, n);
+}
+
+TIMED(proved)
 
 #ifdef HAVE_GCRYPT
-void decrypt_gcrypt(const uint8_t *key, uint8_t *t, size_t n)
+static gcry_cipher_hd_t opened_gcrypt(const uint8_t *key)
 {
     gcry_cipher_hd_t cipher;
     gcry_cipher_open(&cipher, GCRY_CIPHER_TWOFISH, GCRY_CIPHER_MODE_CBC, 0);
     gcry_cipher_setkey(cipher, key, 32);
     gcry_cipher_setiv(cipher, iv, 16);
+    return cipher;
+}
+
+void decrypt_gcrypt(const uint8_t *key, uint8_t *t, size_t n)
+{
+    gcry_cipher_hd_t cipher = opened_gcrypt(key);
     gcry_cipher_decrypt(cipher, t, n, NULL, 0);
     gcry_cipher_close(cipher);
 }
 
-void cbc_gcrypt(uint8_t out[32]) { one_text(decrypt_gcrypt, out); }
-void keys_gcrypt(uint8_t out[32]) { many_keys(decrypt_gcrypt, out); }
+static void encrypt_gcrypt(const uint8_t *key, const uint8_t *from, uint8_t *t, size_t n)
+{
+    gcry_cipher_hd_t cipher = opened_gcrypt(key);
+    gcry_cipher_encrypt(cipher, t, n, from, n);
+    gcry_cipher_close(cipher);
+}
+
+TIMED(gcrypt)
 #endif
 
 #ifdef HAVE_NETTLE
@@ -73,6 +107,14 @@ static void decrypt_nettle(const uint8_t *key, uint8_t *t, size_t n)
     cbc_decrypt(&c, (nettle_cipher_func *)twofish_decrypt, 16, chained, n, t, t);
 }
 
-void cbc_nettle(uint8_t out[32]) { one_text(decrypt_nettle, out); }
-void keys_nettle(uint8_t out[32]) { many_keys(decrypt_nettle, out); }
+static void encrypt_nettle(const uint8_t *key, const uint8_t *from, uint8_t *t, size_t n)
+{
+    struct twofish_ctx c;
+    uint8_t chained[16];
+    memcpy(chained, iv, 16);
+    twofish_set_key(&c, 32, key);
+    cbc_encrypt(&c, (nettle_cipher_func *)twofish_encrypt, 16, chained, n, t, from);
+}
+
+TIMED(nettle)
 #endif

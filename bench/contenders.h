@@ -14,6 +14,8 @@
 #define SMALL_LOGIN 80u
 #define COMMON_LOGIN 160u
 #define FILLED_LOGIN 352u
+#define SHORT (1u << 20)
+#define LONG 4194096u
 
 /* The proved lower layers. */
 void probe_hash(const uint8_t *m, size_t n, uint8_t out[32]);
@@ -21,6 +23,8 @@ void probe_pieces(const uint8_t *m, size_t n, size_t piece, uint8_t out[32]);
 uint64_t probe_stretch(const uint8_t *passphrase, size_t n, const uint8_t salt[32], uint32_t iter,
                        uint8_t out[32]);
 uint64_t probe_decrypt(const uint8_t key[32], const uint8_t iv[16], uint8_t *text, size_t n);
+void probe_encrypt(const uint8_t key[32], const uint8_t iv[16], const uint8_t *from, size_t n,
+                   uint8_t *to, size_t room);
 
 /* The message that all take; its first 8 bytes are the passphrase. */
 extern uint8_t message[MESSAGE];
@@ -40,7 +44,10 @@ runs hash_proved, hash_portable, hash_openssl, hash_gcrypt, hash_nettle;
 runs pieces_proved, pieces_portable, pieces_openssl, pieces_gcrypt, pieces_nettle;
 runs chain_proved, chain_portable, chain_openssl, chain_gcrypt, chain_nettle;
 runs cbc_proved, cbc_gcrypt, cbc_nettle;
+runs encrypted_proved, encrypted_gcrypt, encrypted_nettle;
 runs keys_proved, keys_gcrypt, keys_nettle;
+runs keys_2_proved, keys_2_gcrypt, keys_2_nettle;
+runs keys_4_proved, keys_4_gcrypt, keys_4_nettle;
 runs read_proved, read_others, judge_proved;
 runs replay_proved, replay_sqlite;
 runs export_proved, judge_records, import_proved;
@@ -51,6 +58,10 @@ extern uint8_t body[], safe[], workspace[];
 extern size_t body_len;
 void make_body(size_t length, size_t notes, int small);
 void make_safe(uint32_t iter);
+/* A body without records, or of SHORT or LONG bytes, with notes of 400 bytes; and a safe around it,
+   of 2,048 or, where it says stretched, 262,144 steps. */
+void shortest(void), short_at_once(void), short_stretched(void);
+void long_at_once(void), long_stretched(void);
 /* Adds one field to the body. */
 void add_field(uint8_t type, const void *data, size_t n);
 

@@ -64,6 +64,18 @@ void make_safe(uint32_t iter)
         stop("a safe was refused");
 }
 
+static void safe_of(size_t length, uint32_t iter)
+{
+    make_body(length, 400, 4);
+    make_safe(iter);
+}
+
+void shortest(void) { safe_of(0, 2048); }
+void short_at_once(void) { safe_of(SHORT, 2048); }
+void short_stretched(void) { safe_of(SHORT, 262144); }
+void long_at_once(void) { safe_of(LONG, 2048); }
+void long_stretched(void) { safe_of(LONG, 262144); }
+
 void read_proved(uint8_t out[32])
 {
     uint8_t answer[TALC_READ_ANSWER];
