@@ -1,5 +1,5 @@
-//! How much stack replay, standing, export, import and row take: each runs on a painted stack of its
-//! own, and the paint that is left tells.
+//! How much stack read, write, replay, standing, export, import and row take: each runs on a painted
+//! stack of its own, and the paint that is left tells.
 
 mod common;
 
@@ -79,6 +79,49 @@ fn the_paint_tells() {
     assert!(used_by(&mut || {}) < 4096);
     assert!((10_000..14_096).contains(&used_by(&mut takes::<10_000>)));
     assert!(used_by(&mut takes::<{ MOST + 1 }>) > MOST);
+}
+
+fn write_uses(body: &[u8], output: &mut [u8], number: u32) {
+    let (salt, k, l, iv, mut answered) = ([1; 32], [2; 32], [3; 32], [4; 16], 0);
+    let used = used_by(&mut || {
+        let (start, length) = (output.as_mut_ptr(), output.len());
+        let (text, size) = (body.as_ptr(), body.len());
+        answered = unsafe {
+            raw::talc_write(b"pass".as_ptr(), 4, &salt, 2048, &k, &l, &iv, text, size, start, length)
+        };
+    });
+    assert_eq!(answered, number);
+    assert!(used <= MOST, "{used} bytes");
+}
+
+fn read_uses(file: &[u8], number: u32) {
+    let (mut workspace, mut answer, mut answered) = (vec![0; file.len()], [0; 96], 0);
+    let used = used_by(&mut || {
+        let (start, length) = (workspace.as_mut_ptr(), workspace.len());
+        let (text, size) = (file.as_ptr(), file.len());
+        answered = unsafe {
+            raw::talc_read(text, size, b"pass".as_ptr(), 4, 4096, start, length, &mut answer)
+        };
+    });
+    assert_eq!(answered, number);
+    assert!(used <= MOST, "{used} bytes");
+}
+
+/// The tables of the cipher stand on the stack: written and read, short and long, and refused.
+#[test]
+fn safes_at_most_16_kb() {
+    let random = &mut Random(3);
+    for count in [0, 1, 3000] {
+        let body = body_of(random, &vec![login(&[7; 16], &[]); count]);
+        let mut file = vec![0; body.len() + 200];
+        write_uses(&body, &mut file[1..], 3);
+        write_uses(&[0xff; 32], &mut file, 9);
+        write_uses(&body, &mut file, 0);
+        read_uses(&file, 0);
+        read_uses(&file[..100], 1);
+        file[160] ^= 1;
+        read_uses(&file, 9);
+    }
 }
 
 fn replay_uses(state: &mut [u8], trace: &[u8], number: u32) {
