@@ -39,6 +39,16 @@
 #define NETTLE(f)
 #define NETTLE_TWOFISH(f)
 #endif
+#ifdef HAVE_BOTAN
+#define BOTAN(f) {"Botan", f##_botan, 0},
+#else
+#define BOTAN(f)
+#endif
+#ifdef HAVE_TOMCRYPT
+#define TOMCRYPT(f) {"LibTomCrypt", f##_tomcrypt, 0},
+#else
+#define TOMCRYPT(f)
+#endif
 #ifdef HAVE_SQLITE
 #define SQLITE(f) {"SQLite in memory", f, 0},
 #else
@@ -55,7 +65,7 @@
 #define MB(n) ((n) / 1e6)
 #define TWOFISH(what, unit, work, f) \
     {"Twofish, " what, unit, work, 9, NULL, \
-     {PROVED(f##_proved) GCRYPT_TWOFISH(f) NETTLE_TWOFISH(f)}}
+     {PROVED(f##_proved) GCRYPT_TWOFISH(f) NETTLE_TWOFISH(f) BOTAN(f) TOMCRYPT(f)}}
 #define WHOLE(title, rounds, prepare) \
     {title, "/s", 1, rounds, prepare, {PROVED(read_proved) OTHERS}}
 #define REPLAY(over, prepare) \

@@ -10,6 +10,9 @@
 #include <nettle/cbc.h>
 #include <nettle/twofish.h>
 #endif
+#ifdef HAVE_BOTAN
+#include <botan/ffi.h>
+#endif
 
 static uint8_t text[TEXT];
 
@@ -117,4 +120,33 @@ static void encrypt_nettle(const uint8_t *key, const uint8_t *from, uint8_t *t, 
 }
 
 TIMED(nettle)
+#endif
+
+#ifdef HAVE_BOTAN
+static void through_botan(const uint8_t *key, int way, const uint8_t *from, uint8_t *t, size_t n)
+{
+    botan_cipher_t c;
+    size_t written, taken;
+    botan_cipher_init(&c, "Twofish/CBC/NoPadding", way);
+    botan_cipher_set_key(c, key, 32);
+    botan_cipher_start(c, iv, 16);
+    botan_cipher_update(c, BOTAN_CIPHER_UPDATE_FLAG_FINAL, t, n, &written, from, n, &taken);
+    botan_cipher_destroy(c);
+}
+
+static void decrypt_botan(const uint8_t *key, uint8_t *t, size_t n)
+{
+    through_botan(key, BOTAN_CIPHER_INIT_FLAG_DECRYPT, t, t, n);
+}
+
+static void encrypt_botan(const uint8_t *key, const uint8_t *from, uint8_t *t, size_t n)
+{
+    through_botan(key, BOTAN_CIPHER_INIT_FLAG_ENCRYPT, from, t, n);
+}
+
+TIMED(botan)
+#endif
+
+#ifdef HAVE_TOMCRYPT
+TIMED(tomcrypt)
 #endif

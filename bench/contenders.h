@@ -37,17 +37,19 @@ void first(uint8_t joined[40]);
 /* A key for each number. */
 void key_number(uint8_t key[32], int i);
 void decrypt_gcrypt(const uint8_t *key, uint8_t *t, size_t n);
+void decrypt_tomcrypt(const uint8_t *key, uint8_t *t, size_t n);
+void encrypt_tomcrypt(const uint8_t *key, const uint8_t *from, uint8_t *t, size_t n);
 
 typedef void runs(uint8_t outcome[32]);
 
 runs hash_proved, hash_portable, hash_openssl, hash_gcrypt, hash_nettle;
 runs pieces_proved, pieces_portable, pieces_openssl, pieces_gcrypt, pieces_nettle;
 runs chain_proved, chain_portable, chain_openssl, chain_gcrypt, chain_nettle;
-runs cbc_proved, cbc_gcrypt, cbc_nettle;
-runs encrypted_proved, encrypted_gcrypt, encrypted_nettle;
-runs keys_proved, keys_gcrypt, keys_nettle;
-runs keys_2_proved, keys_2_gcrypt, keys_2_nettle;
-runs keys_4_proved, keys_4_gcrypt, keys_4_nettle;
+runs cbc_proved, cbc_gcrypt, cbc_nettle, cbc_botan, cbc_tomcrypt;
+runs encrypted_proved, encrypted_gcrypt, encrypted_nettle, encrypted_botan, encrypted_tomcrypt;
+runs keys_proved, keys_gcrypt, keys_nettle, keys_botan, keys_tomcrypt;
+runs keys_2_proved, keys_2_gcrypt, keys_2_nettle, keys_2_botan, keys_2_tomcrypt;
+runs keys_4_proved, keys_4_gcrypt, keys_4_nettle, keys_4_botan, keys_4_tomcrypt;
 runs read_proved, read_others, judge_proved;
 runs replay_proved, replay_sqlite;
 runs export_proved, judge_records, import_proved;
