@@ -1,16 +1,21 @@
 -- A mode on four words is the mode on their 16 bytes, over any cipher on four words: the bytes of an exclusive or are the exclusive ors of the bytes.
-use Prim.Native.Nat.{ℕ}
+-- And the block of a part of a memory, word by word.
+use Prim.Native.Nat.{ℕ, _+_, _<_, _≤_}
 use mathlib.Core.Path.{_≡_, refl, sym, ap, ap₂, _∙_}
-use mathlib.Core.List.{List, _++_}
+use mathlib.Core.List.{List, [], _∷_, _++_}
 use lib.Bits.{xor-lt}
-use lib.ListN.{length}
-use Rattle.words.specs.Numbers.{bytesLow, Sized}
+use native.Mathlib.Nat.{add-zero}
+use native.Mathlib.Omega.{arith}
+use lib.ListN.{length, take, drop}
+use lib.Seq.{getD-take, getD-drop}
+use Rattle.words.specs.Numbers.{numberLow, bytesLow, Sized}
+use Rattle.words.specs.Table.{at}
 use Rattle.words.specs.Xor.{xored}
 use Rattle.words.proofs.NumberLaws.{bytes-sized}
 use Rattle.words.proofs.XorLaws.{xored-append, bytes-xor}
-use Rattle.twofish.specs.Twofish.{blockOf, blockBytes}
+use Rattle.twofish.specs.Twofish.{wordAt, blockOf, blockBytes}
 use Rattle.twofish.specs.declared.Block.{Block}
-use Rattle.twofish.proofs.Rounds.{Words}
+use Rattle.twofish.proofs.Rounds.{Words, blocks}
 use Rattle.twofish.proofs.Inverse.{block-words, bytes-block, block-bytes}
 use Rattle.chain.specs.Blocks.{xorBlock, chained, onBytes, modeE, modeD}
 use Rattle.chain.specs.declared.Mode.{Mode}
@@ -57,3 +62,21 @@ module _ (F : Block → Block) where
   unfolding chained modeD onBytes
   words-d Ecb b p = refl
   words-d Cbc b p = xor-bytes (F (blockOf b)) p
+
+-- a word of a part, and the block of its words
+part-word : (l : List ℕ) (i j : ℕ) → j + 4 ≤ 16 → wordAt (take 16 (drop i l)) j ≡ wordAt l (i + j)
+part-word l i j h =
+    λ t. numberLow (byte j (omega arith) t ∷ next 1 (omega arith) t ∷ next 2 (omega arith) t ∷ next 3 (omega arith) t ∷ [])
+  where
+    byte : (k : ℕ) → k < 16 → at (take 16 (drop i l)) k ≡ at l (i + k)
+    byte k p = getD-take 16 (drop i l) k 0 p ∙ getD-drop i l k 0
+
+    next : (k : ℕ) → j + k < 16 → at (take 16 (drop i l)) (j + k) ≡ at l (i + j + k)
+    next k p = let e : i + (j + k) ≡ i + j + k = omega arith in byte (j + k) p ∙ ap (at l) e
+
+pub words-of : (l : List ℕ) (i : ℕ) {a b c d : ℕ} → a ≡ wordAt l i → b ≡ wordAt l (i + 4) → c ≡ wordAt l (i + 8) → d ≡ wordAt l (i + 12)
+    → record { a = a; b = b; c = c; d = d } ≡ blockOf (take 16 (drop i l))
+unfolding blockOf
+words-of l i ea eb ec ed =
+    blocks (ea ∙ ap (wordAt l) (sym (add-zero i)) ∙ sym (part-word l i 0 (omega arith))) (eb ∙ sym (part-word l i 4 (omega arith)))
+    (ec ∙ sym (part-word l i 8 (omega arith))) (ed ∙ sym (part-word l i 12 (omega arith)))

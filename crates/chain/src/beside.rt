@@ -5,20 +5,42 @@ use super::block::store;
 use twofish::Block;
 use twofish::Three;
 use twofish::beside;
-use twofish::blocks::load;
+use words::numbers::low;
 ghost use mathlib.Core.Path.{_≡_};
-ghost use lib.ListN.{length};
+ghost use Prim.Native.Nat.{_+_, _≤_};
+ghost use lib.ListN.{length, take, drop};
+ghost use Rattle.twofish.specs.Twofish.{wordAt, blockOf};
 ghost use Rattle.twofish.specs.Tabled.{tabledDecrypt};
 ghost use Rattle.chain.specs.Blocks.{textsOf, threeOf, DecryptedThree};
+
+fn word(b: &[u8], i: usize) -> u32
+    requires { ⌜ i + 4 ≤ length (now b) ⌝ }
+    ensures { λ r. ⌜ r ≡ wordAt (now (b .entry)) i ⌝ }
+{
+    low(b[i], b[i + 1], b[i + 2], b[i + 3])
+}
+
+// The block from i on. Unlike `load`, which takes any length, it is small enough to be put where it is called.
+fn read(b: &[u8], i: usize) -> Block
+    requires { ⌜ i + 16 ≤ length (now b) ⌝ }
+    ensures { λ r. ⌜ r ≡ blockOf (take 16 (drop i (now (b .entry)))) ⌝ }
+{
+    Block {
+        a: word(b, i),
+        b: word(b, i + 4),
+        c: word(b, i + 8),
+        d: word(b, i + 12),
+    }
+}
 
 fn load_three(b: &[u8]) -> Three
     requires { ⌜ length (now b) ≡ 48 ⌝ }
     ensures { λ r. ⌜ r ≡ threeOf (now (b .entry)) ⌝ }
 {
     Three {
-        x: load(&b[0..16]),
-        y: load(&b[16..32]),
-        z: load(&b[32..48]),
+        x: read(b, 0),
+        y: read(b, 16),
+        z: read(b, 32),
     }
 }
 

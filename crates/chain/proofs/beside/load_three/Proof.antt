@@ -6,22 +6,13 @@ use Rattle.chain.proofs.beside.load_three.Tie as tie
 
 returns : tie.Need-returns
 unfolding threeOf
-returns c = cc
+returns c = λ i. record { x = c .before .before .read .ensures i; y = c .before .read2 .ensures i; z = c .read3 .ensures i }
 
 pub load-three-spec : {M : Type 1} → statement M
 load-three-spec =
     tie.close
     (tie.spec
-    (λ c. search needs)
-    (λ c. search needs)
-    (λ c. search needs)
     (λ c κs. search needs)
-    (λ c. search needs)
-    (λ c. search needs)
-    (λ c. search needs)
     (λ c κs. search needs)
-    (λ c. search needs)
-    (λ c. search needs)
-    (λ c. search needs)
     (λ c κs. search needs)
     returns)
