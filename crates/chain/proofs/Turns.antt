@@ -12,7 +12,7 @@ use Rattle.words.proofs.SliceLaws.{copied-over, part-of}
 use Rattle.twofish.specs.Twofish.{blockOf, blockBytes}
 use Rattle.twofish.specs.declared.Block.{Block}
 use Rattle.twofish.specs.declared.Three.{Three}
-use Rattle.twofish.specs.Beside.{each}
+use Rattle.twofish.specs.Beside.{threefold}
 use Rattle.twofish.proofs.Rounds.{Words}
 use Rattle.twofish.proofs.Inverse.{block-words, bytes-block, block-bytes-sized}
 use Rattle.chain.specs.Memory.{Handed}
@@ -40,8 +40,8 @@ three-sized {l} i h k =
     let d : length (drop i l) ≡ length l - i = length-drop i l in
     (block-sized i h (omega arith), block-sized 16 (bytes-drop i h) (omega arith), block-sized 32 (bytes-drop i h) (omega arith))
 
--- the texts, one by one, and of what was read
-pub texts-made : (mode : Mode) (F : Block → Block) (prev : Block) (t : Three) {u : Three} {x y z : Block} → u ≡ each F t
+-- the texts from the results of the calls, and their bytes
+pub texts-made : (mode : Mode) (F : Block → Block) (prev : Block) (t : Three) {u : Three} {x y z : Block} → u ≡ threefold F t
     → x ≡ chained mode prev (u .x) → y ≡ chained mode (t .x) (u .y) → z ≡ chained mode (t .y) (u .z)
     → record { x = x; y = y; z = z } ≡ textsOf mode F prev t
 unfolding textsOf
@@ -214,7 +214,7 @@ module _ (mode : Mode) (F : Block → Block) (n : ℕ) (first l : List ℕ) wher
 counted : (x m : ℕ) → (x % 2 ^ 64 + m) % 2 ^ 64 ≡ (x + m) % 2 ^ 64
 counted x m = omega arith
 
--- what is left of a memory, decrypted from the block handed on: then all of it is
+-- the rest of a memory, decrypted from the block handed on: then all of it is
 module _ (mode : Mode) (F : Block → Block) (first l : List ℕ) (count : ℕ) where
   pub then-singly : {m i : ℕ} {w : List ℕ} {prev : Block} → Decrypting mode F (length l / 16) first l m i w prev → i + 16 * m ≡ 16 * (length l / 16)
       → (c : ℕ) {v : List ℕ} {r : ℕ} → c ≡ (count + (length l / 16 - m)) % 2 ^ 64

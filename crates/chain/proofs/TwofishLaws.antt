@@ -5,13 +5,10 @@ use mathlib.Core.Path.{_≡_, ap, _∙_}
 use mathlib.Core.List.{List}
 use lib.ListN.{length}
 use Rattle.words.specs.Numbers.{Bytes, Sized}
-use Rattle.words.specs.Table.{at}
-use Rattle.twofish.specs.Q.{table0, table1}
-use Rattle.twofish.specs.Key.{boxKey, subkeys}
-use Rattle.twofish.specs.Tabled.{filled, tabledEncrypt, tabledDecrypt}
+use Rattle.twofish.specs.Tabled.{tabledEncrypt, tabledDecrypt}
 use Rattle.twofish.specs.Twofish.{blockOf, blockBytes, encryptBlock, decryptBlock}
 use Rattle.twofish.specs.declared.Block.{Block}
-use Rattle.twofish.proofs.Keyed.{encrypts, decrypts}
+use Rattle.twofish.proofs.Keyed.{Made, encrypts, decrypts}
 use Rattle.twofish.proofs.Inverse.{bytes-block, encrypt-block-sized, decrypt-block-sized, decrypt-encrypt-block, encrypt-decrypt-block}
 use Rattle.chain.specs.Cipher.{CipherLaws}
 use Rattle.chain.specs.Modes.{ecbE, ecbD, cbcE, cbcD, encrypted, decrypted}
@@ -48,16 +45,14 @@ module _ (k : List ℕ) (hk : Sized 32 k) where
     pub cbc-again : encrypted (cbcE twofishCipher k) n p (decrypted (cbcD twofishCipher k) n p l) ≡ l
     cbc-again = encrypted-decrypted _ _ twofish-cbc n p l hp hl
 
-module _ (key : List ℕ) {t0 t1 s k g0 g1 g2 g3 : List ℕ} (p : t0 ≡ table0) (q : t1 ≡ table1) (b : s ≡ boxKey key) (w : k ≡ subkeys (at t0) (at t1) key)
-    (e0 : g0 ≡ filled (at t0) (at t1) s 0) (e1 : g1 ≡ filled (at t0) (at t1) s 1) (e2 : g2 ≡ filled (at t0) (at t1) s 2)
-    (e3 : g3 ≡ filled (at t0) (at t1) s 3) where
+module _ (key : List ℕ) {t0 t1 s k g0 g1 g2 g3 : List ℕ} (o : Made key t0 t1 s k g0 g1 g2 g3) where
   pub tabled-enc : onBytes (tabledEncrypt g0 g1 g2 g3 k) ≡ encryptBlock key
   unfolding onBytes encryptBlock
-  tabled-enc = ap onBytes (encrypts key p q b w e0 e1 e2 e3)
+  tabled-enc = ap onBytes (encrypts key o)
 
   pub tabled-dec : onBytes (tabledDecrypt g0 g1 g2 g3 k) ≡ decryptBlock key
   unfolding onBytes decryptBlock
-  tabled-dec = ap onBytes (decrypts key p q b w e0 e1 e2 e3)
+  tabled-dec = ap onBytes (decrypts key o)
 
 -- the block that the first one is chained to has the bytes of the initial vector
 pub iv-bytes : (iv : List ℕ) {r : Block} → length iv ≡ 16 → (r ≡ blockOf iv) × Bytes iv → blockBytes r ≡ iv

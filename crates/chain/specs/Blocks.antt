@@ -17,7 +17,7 @@ use Rattle.chain.specs.declared.Mode.the-variants.{Ecb, Cbc}
 abbrev pub xorBlock : Block → Block → Block
 xorBlock x y = record { a = bitXor (x .a) (y .a); b = bitXor (x .b) (y .b); c = bitXor (x .c) (y .c); d = bitXor (x .d) (y .d) }
 
--- a text with the cipher block before it: what is encrypted, and what was decrypted
+-- a block with the cipher block before it: a text before it is encrypted, a block after it is decrypted
 unfoldable pub chained : Mode → Block → Block → Block
 chained Ecb prev x = x
 chained Cbc prev x = xorBlock x prev
@@ -56,7 +56,7 @@ pub record DecryptedThree (mode : Mode) (D : Block → Block) (prev : Block) (be
 unfoldable pub onBytes : (Block → Block) → List ℕ → List ℕ
 onBytes F b = blockBytes (F (blockOf b))
 
--- the modes by their names, over a cipher on 16 bytes
+-- the modes (Modes) by their names, over a cipher on 16 bytes that has its key
 unfoldable pub modeE : Mode → (List ℕ → List ℕ) → List ℕ → List ℕ → List ℕ
 modeE Ecb f prev b = f b
 modeE Cbc f prev b = f (xored b prev)

@@ -58,11 +58,10 @@ fn texts(
     ensures { λ r. ⌜ r ≡ textsOf mode (tabledDecrypt (now (g0 .entry)) (now (g1 .entry)) (now (g2 .entry)) (now (g3 .entry)) (now (k .entry))) prev t ⌝ }
 {
     let u = beside::decrypt(g0, g1, g2, g3, k, t);
-    Three {
-        x: chained(mode, prev, u.x),
-        y: chained(mode, t.x, u.y),
-        z: chained(mode, t.y, u.z),
-    }
+    let x = chained(mode, prev, u.x);
+    let y = chained(mode, t.x, u.y);
+    let z = chained(mode, t.y, u.z);
+    Three { x: x, y: y, z: z }
 }
 
 // Hands on the last cipher block.

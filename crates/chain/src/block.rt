@@ -30,7 +30,7 @@ fn xor(x: Block, y: Block) -> Block
     }
 }
 
-// A text with the cipher block before it, as the mode has it.
+// A block with the cipher block before it, as the mode has it: a text that is to be encrypted, or a block that was decrypted.
 pub fn chained(mode: Mode, prev: Block, x: Block) -> Block
     ensures { λ r. ⌜ r ≡ chainedOf mode prev x ⌝ }
 {

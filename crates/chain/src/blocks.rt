@@ -1,5 +1,5 @@
-// All blocks of a memory in place, in either mode, the first one chained to `first`; what is left of the memory stays. g0 to
-// g3 are the tables of g, and k has the subkeys.
+// All blocks of a memory in place, in either mode, the first one chained to `first`; bytes past the last whole block stay. g0
+// to g3 are the tables of g, and k has the subkeys.
 use super::Mode;
 use super::beside;
 use super::block;
@@ -35,7 +35,7 @@ pub fn encrypt(
     }
 }
 
-// The count goes on from `count`: one more at each block, and nothing else changes it.
+// The count goes on from `count`: one more at each block.
 fn decrypt_singly(
     mode: Mode,
     g0: &[u32; 256],
@@ -65,7 +65,7 @@ fn decrypt_singly(
     c
 }
 
-// Three by three, and what is left singly.
+// Three by three, and the rest singly; each block counts one.
 pub fn decrypt(
     mode: Mode,
     g0: &[u32; 256],
@@ -94,6 +94,6 @@ pub fn decrypt(
         let two = std::num::wrapping_add_u64(one, 1);
         c = std::num::wrapping_add_u64(two, 1);
     }
-    let left = 48 * turn;
-    decrypt_singly(mode, g0, g1, g2, g3, k, prev, &mut work[left..], c)
+    let rest = 48 * turn;
+    decrypt_singly(mode, g0, g1, g2, g3, k, prev, &mut work[rest..], c)
 }

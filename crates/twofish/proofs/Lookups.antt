@@ -15,6 +15,7 @@ use Rattle.twofish.proofs.ColumnSums.{columns, only0, only1, only2, onl
 use Rattle.twofish.proofs.Permutations.{q0-byte, q1-byte}
 
 module _ (l : List ℕ) where
+  -- every entry of a table that was filled
   pub every-entry : (j x : ℕ) → x < 256 → at (filled q0 q1 l j) x ≡ entry q0 q1 l j x
   unfolding filled
   every-entry j = at-table 256 (entry q0 q1 l j)

@@ -7,7 +7,7 @@ use Rattle.twofish.specs.Field.{_⊕_}
 use Rattle.twofish.specs.Cipher.{F0, F1, round, unround, rounds}
 use Rattle.twofish.specs.declared.Block.{Block}
 use Rattle.twofish.specs.declared.Three.{Three}
-use Rattle.twofish.specs.Beside.{each}
+use Rattle.twofish.specs.Beside.{threefold}
 use Rattle.twofish.proofs.Rounds.{blocks}
 
 module _ (g k : ℕ → ℕ) where
@@ -60,6 +60,6 @@ module _ {S : Type 0} (U : ℕ → S → S) where
   none-left none i x z ex = sym (none x) ∙ ap (λ (n : ℕ). U n x) z ∙ ex
 
 -- three blocks by the results of three calls
-pub each-made : (F : Block → Block) (t : Three) {x y z : Block} → x ≡ F (t .x) → y ≡ F (t .y) → z ≡ F (t .z)
-    → record { x = x; y = y; z = z } ≡ each F t
-each-made F t p q r = λ i. record { x = p i; y = q i; z = r i }
+pub threefold-made : (F : Block → Block) (t : Three) {x y z : Block} → x ≡ F (t .x) → y ≡ F (t .y) → z ≡ F (t .z)
+    → record { x = x; y = y; z = z } ≡ threefold F t
+threefold-made F t p q r = λ i. record { x = p i; y = q i; z = r i }

@@ -1,4 +1,4 @@
--- The cipher as the code has it, over five lists: g0 to g3 for the tables of g, k for the subkeys.
+-- The four tables of g, entry by entry; and the cipher as the code has it, over five lists: g0 to g3 for these tables, k for the subkeys.
 -- With the lists that a key makes it is Twofish under that key.
 use Prim.Native.Nat.{ℕ}
 use mathlib.Core.Bool.{cond}
@@ -12,13 +12,13 @@ use Rattle.twofish.specs.Cipher.{encrypt, decrypt}
 use Rattle.twofish.specs.declared.Block.{Block}
 
 module _ (q0 q1 : ℕ → ℕ) (l : List ℕ) where
-  -- what byte j of a word, x, adds to h: column j of the MDS matrix times y of x
+  -- what byte j of a word, x, adds to h: column j of the MDS matrix times y of x; a j past 3 counts as 3
   unfoldable pub entry : ℕ → ℕ → ℕ
   entry j x =
       cond (eqb j 0) (mds (y0 q0 q1 l x) 0 0 0)
       (cond (eqb j 1) (mds 0 (y1 q0 q1 l x) 0 0) (cond (eqb j 2) (mds 0 0 (y2 q0 q1 l x) 0) (mds 0 0 0 (y3 q0 q1 l x))))
 
-  -- table j, one entry for each byte
+  -- table j: one entry for each byte
   unfoldable pub filled : ℕ → List ℕ
   filled j = table 256 (entry j)
 

@@ -9,7 +9,7 @@ ghost use Prim.Native.Nat.{_+_, _*_, _<_};
 ghost use Rattle.words.specs.Table.{at};
 ghost use Rattle.twofish.specs.Cipher.{whiten as whitenOf, swap as swapOf, unround as unroundOf};
 ghost use Rattle.twofish.specs.Tabled.{tabledG, tabledDecrypt};
-ghost use Rattle.twofish.specs.Beside.{each};
+ghost use Rattle.twofish.specs.Beside.{threefold};
 
 // Rounds 2 i + 1 and 2 i back. It has one caller, and so is put into its loop.
 fn two_back(
@@ -22,8 +22,8 @@ fn two_back(
     t: Three,
 ) -> Three
     requires { ⌜ i < 8 ⌝ }
-    ensures { λ r. ⌜ r ≡ each (unroundOf (tabledG (now (g0 .entry)) (now (g1 .entry)) (now (g2 .entry)) (now (g3 .entry))) (at (now (k .entry))) (2 * i))
-        (each (unroundOf (tabledG (now (g0 .entry)) (now (g1 .entry)) (now (g2 .entry)) (now (g3 .entry))) (at (now (k .entry))) (2 * i + 1)) t) ⌝ }
+    ensures { λ r. ⌜ r ≡ threefold (unroundOf (tabledG (now (g0 .entry)) (now (g1 .entry)) (now (g2 .entry)) (now (g3 .entry))) (at (now (k .entry))) (2 * i))
+        (threefold (unroundOf (tabledG (now (g0 .entry)) (now (g1 .entry)) (now (g2 .entry)) (now (g3 .entry))) (at (now (k .entry))) (2 * i + 1)) t) ⌝ }
 {
     let x = unround(g0, g1, g2, g3, k, 2 * i + 1, t.x);
     let y = unround(g0, g1, g2, g3, k, 2 * i + 1, t.y);
@@ -35,6 +35,7 @@ fn two_back(
     }
 }
 
+// What the rounds back start from.
 fn enter(k: &[u32; 40], x: Block) -> Block
     ensures { λ r. ⌜ r ≡ swapOf (whitenOf (at (now (k .entry))) 4 x) ⌝ }
 {
@@ -49,7 +50,7 @@ pub fn decrypt(
     k: &[u32; 40],
     t: Three,
 ) -> Three
-    ensures { λ r. ⌜ r ≡ each (tabledDecrypt (now (g0 .entry)) (now (g1 .entry)) (now (g2 .entry)) (now (g3 .entry)) (now (k .entry))) t ⌝ }
+    ensures { λ r. ⌜ r ≡ threefold (tabledDecrypt (now (g0 .entry)) (now (g1 .entry)) (now (g2 .entry)) (now (g3 .entry)) (now (k .entry))) t ⌝ }
 {
     let mut u = Three {
         x: enter(k, t.x),

@@ -21,6 +21,7 @@ fn at(b: &[u8], i: usize) -> u8
     if i < b.len() { b[i] } else { 0 }
 }
 
+// Four bytes at once where they are there.
 fn word(b: &[u8], i: usize) -> u32
     requires { ⌜ i < 16 ⌝ }
     ensures { λ r. ⌜ r ≡ wordAt (now (b .entry)) i ⌝ }

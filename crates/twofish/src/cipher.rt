@@ -7,7 +7,7 @@ use super::round::whiten;
 ghost use mathlib.Core.Path.{_≡_};
 ghost use Rattle.twofish.specs.Tabled.{tabledEncrypt, tabledDecrypt};
 
-// Two rounds a turn: the words then stay in registers.
+// Both take two rounds a turn: the words then stay in registers.
 pub fn encrypt(
     g0: &[u32; 256],
     g1: &[u32; 256],

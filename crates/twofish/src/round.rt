@@ -1,4 +1,4 @@
-// A round of the cipher, and back, and the whitening. g0 to g3 are the tables of g, and k has the subkeys.
+// The look-ups of g, a round of the cipher and back, and the whitening. g0 to g3 are the tables of g, and k has the subkeys.
 use super::Block;
 use super::key::sum;
 use super::key::sum_twice;

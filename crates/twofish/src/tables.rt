@@ -11,7 +11,7 @@ ghost use mathlib.Core.Path.{_≡_};
 ghost use Rattle.words.specs.Table.{at};
 ghost use Rattle.twofish.specs.Tabled.{entry as entryOf, filled};
 
-// Entry x of table j.
+// Entry x of table j; a j past 3 counts as 3.
 fn entry(t0: &[u8; 256], t1: &[u8; 256], s: &[u8; 16], j: usize, x: u8) -> u32
     ensures { λ r. ⌜ r ≡ entryOf (at (now (t0 .entry))) (at (now (t1 .entry))) (now (s .entry)) j x ⌝ }
 {
@@ -27,7 +27,7 @@ fn entry(t0: &[u8; 256], t1: &[u8; 256], s: &[u8; 16], j: usize, x: u8) -> u32
     col3(y3(t0, t1, s, x))
 }
 
-// Table j.
+// Table j of the four.
 pub fn fill(t0: &[u8; 256], t1: &[u8; 256], s: &[u8; 16], j: usize) -> [u32; 256]
     ensures { λ r. ⌜ r ≡ filled (at (now (t0 .entry))) (at (now (t1 .entry))) (now (s .entry)) j ⌝ }
 {

@@ -1,4 +1,5 @@
--- What the loops over slices hold: a copy as far as it has come, and a comparison as far as it has come; and what a part put after another leaves, and a part of a part is. By recursion on the list, and by the lengths of its parts.
+-- What the loops over slices hold: a copy as far as it has come, and a comparison as far as it has come; what a part put after another leaves, and
+-- what a part of a start is. By recursion on the list, and by the lengths of its parts.
 use mathlib.Core.Path.{_≡_, refl, sym, ap, ap₂, _∙_}
 use mathlib.Core.Bool.{Bool, true, false, cond}
 use mathlib.Core.List.{List, [], _∷_, _++_, append-assoc, append-nil}

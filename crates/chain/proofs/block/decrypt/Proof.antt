@@ -10,11 +10,13 @@ use Rattle.chain.proofs.block.decrypt.Tie as tie
 returns : tie.Need-returns
 returns c =
     let a = c .before .before .before .before .before .before .before .before .before .args in
+    let made = c .before .before .before .before in
     record {
-      block = c .before .before .before .before .before .before .load .ensures;
+      block = made .before .before .load .ensures;
       memory =
           c .before .before .store .ensures
-          ∙ ap (λ y. copied (a .b .now) (blockBytes y)) (c .before .before .before .before .chained .ensures ∙ ap (chained (a .mode) (a .prev)) (c .before .before .before .before .before .decrypt .ensures));
+          ∙ ap (λ y. copied (a .b .now) (blockBytes y))
+          (made .chained .ensures ∙ ap (chained (a .mode) (a .prev)) (made .before .decrypt .ensures));
     }
 
 pub decrypt-spec : {M : Type 1} → statement M

@@ -10,8 +10,11 @@ returns : tie.Need-returns
 returns c =
     let a = c .before .before .before .before .before .before .before .before .before .args in
     let E = tabledEncrypt (a .g0 .now) (a .g1 .now) (a .g2 .now) (a .g3 .now) (a .k .now) in
+    let made = c .before .before .before .before in
     record {
-      block = c .before .before .before .before .encrypt .ensures ∙ ap E (c .before .before .before .before .before .chained .ensures ∙ ap (chained (a .mode) (a .prev)) (c .before .before .before .before .before .before .load .ensures));
+      block =
+          made .encrypt .ensures
+          ∙ ap E (made .before .chained .ensures ∙ ap (chained (a .mode) (a .prev)) (made .before .before .load .ensures));
       memory = c .before .before .store .ensures;
     }
 

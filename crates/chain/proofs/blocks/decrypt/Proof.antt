@@ -1,4 +1,5 @@
--- `chain::blocks::decrypt` meets its contract: after j turns the memory has the definition's first 3 j blocks of text, and then what is left of the cipher text, which `decrypt_singly` decrypts; the count has gone on by 3 j.
+-- `chain::blocks::decrypt` meets its contract: after j turns the memory has the definition's first 3 j blocks of text, and then the rest
+-- of the cipher text, which `decrypt_singly` decrypts; the count has gone on by 3 j.
 use Prim.Native.Nat.{ℕ, _+_, _-_, _*_, _/_, _%_, _^_, _≤_}
 use native.Mathlib.Omega.{arith}
 use Rattle.words.specs.Numbers.{Bytes}

@@ -1,4 +1,5 @@
--- `chain::blocks::decrypt_singly` meets its contract: after j turns the memory has the definition's first j blocks of text, and then what is left of the cipher text; the count has gone on by j.
+-- `chain::blocks::decrypt_singly` meets its contract: after j turns the memory has the definition's first j blocks of text, and then
+-- the rest of the cipher text; the count has gone on by j.
 use mathlib.Core.Path.{_≡_, ap, ap₂, _∙_}
 use mathlib.Core.List.{List, _++_}
 use Prim.Native.Nat.{ℕ, _+_, _-_, _*_, _/_, _%_, _^_, _≤_}

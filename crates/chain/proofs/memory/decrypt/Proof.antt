@@ -19,17 +19,26 @@ returns c =
 
 returns-2 : tie.Need-returns-2
 returns-2 c =
-    let fourth = c .before .before .before .before .before .before .before .before .before .before .before in
-    let third = fourth .before .before .before .before in
-    let second = third .before .before .before .before in
-    let first = second .before .before .before .before in
-    let keyed = first .before .before .before .before in
-    let tables = keyed .before .before .before in
-    let tested = tables .before .before .before in
+    let g3 = c .before .before .before .before .before .before .before .before .before .before .before in
+    let g2 = g3 .before .before .before .before in
+    let g1 = g2 .before .before .before .before in
+    let g0 = g1 .before .before .before .before in
+    let k = g0 .before .before .before .before in
+    let s = k .before .before .before in
+    let tested = s .before .before .before in
     let a = tested .before .before .args in
     let same =
-    tabled-dec (a .key .now) (tables .before .before .table .ensures) (tables .before .table2 .ensures) (tables .box-key .ensures) (keyed .subkeys .ensures)
-    (first .fill .ensures) (second .fill2 .ensures) (third .fill3 .ensures) (fourth .fill4 .ensures)
+    tabled-dec (a .key .now)
+    (record {
+      t0-is = s .before .before .table .ensures;
+      t1-is = s .before .table2 .ensures;
+      s-is = s .box-key .ensures;
+      k-is = k .subkeys .ensures;
+      g0-is = g0 .fill .ensures;
+      g1-is = g1 .fill2 .ensures;
+      g2-is = g2 .fill3 .ensures;
+      g3-is = g3 .fill4 .ensures;
+    })
     in
     let begun = iv-bytes (a .iv .now) (c .before .before .before .before .before .start-arg .given .0) (c .before .before .before .before .start .ensures) in
     let all =

@@ -16,8 +16,17 @@ returns c =
     let s = k .before .before .before in
     let a = s .before .before .before .before .args in
     in-bytes (a .b .now)
-    (decrypts (a .m .now) (s .before .before .table .ensures) (s .before .table2 .ensures) (s .box-key .ensures) (k .subkeys .ensures)
-    (g0 .fill .ensures) (g1 .fill2 .ensures) (g2 .fill3 .ensures) (g3 .fill4 .ensures))
+    (decrypts (a .m .now)
+    (record {
+      t0-is = s .before .before .table .ensures;
+      t1-is = s .before .table2 .ensures;
+      s-is = s .box-key .ensures;
+      k-is = k .subkeys .ensures;
+      g0-is = g0 .fill .ensures;
+      g1-is = g1 .fill2 .ensures;
+      g2-is = g2 .fill3 .ensures;
+      g3-is = g3 .fill4 .ensures;
+    }))
     (c .before .before .load .ensures) (c .before .decrypt .ensures) (c .bytes .ensures)
 
 pub decrypt-block-spec : {M : Type 1} → statement M
