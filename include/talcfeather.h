@@ -193,7 +193,8 @@ static inline uint64_t talc_number(const uint8_t *p)
  * The HMAC covers the data of all fields and neither their types, lengths
  * nor fill: an accepted file is not proved to be the file that was saved.
  * The time taken grows with ITER up to `ceiling`; 1 to 7 come before any
- * stretching. The caller wipes workspace and answer when done with them.
+ * stretching. The caller wipes workspace and answer when done with them. A
+ * test holds the call to 16 KB of stack.
  */
 uint32_t talc_read(const uint8_t *file, size_t file_len,
                    const uint8_t *passphrase, size_t passphrase_len,
@@ -218,7 +219,7 @@ uint32_t talc_read(const uint8_t *file, size_t file_len,
  *
  * Accepted (0): the output holds the file (body_len + 200 bytes), then zeros
  * to its end.
- * Refused: the whole output is zero.
+ * Refused: the whole output is zero. A test holds the call to 16 KB of stack.
  */
 uint32_t talc_write(const uint8_t *passphrase, size_t passphrase_len,
                     const uint8_t salt[32], uint32_t iter,
