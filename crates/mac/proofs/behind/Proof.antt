@@ -11,7 +11,7 @@ returns : tie.Need-returns
 returns c =
     let g = c .before .before .before .args in
     let w = valued (g .body .now) (cursorAt (g .at)) _ (c .before .step .ensures) in
-    next-else (g .body .now) (g .at) _ (sym w) (none-taken (g .body .now) (cursorAt (g .at)) _ (c .match .keys2))
+    next-else (g .body .now) (g .at) _ (sym w) (none-taken (g .body .now) (cursorAt (g .at)) (c .before .step .result) (c .match .keys2))
 
 returns-2 : tie.Need-returns-2
 returns-2 c =
