@@ -139,12 +139,12 @@ valued s c r q = by (walkOf s c) refl ∙ ap (withValue s c) (sym q)
     by Broken e = refl
 
 -- no field without the value, and none with it
-pub none-taken : (s : List ℕ) (c : Cursor) (r : Stepped) → OneOf (1 ∷ 2 ∷ 3 ∷ []) (tagOf stepped.the-type r)
+pub valued-else : (s : List ℕ) (c : Cursor) (r : Stepped) → OneOf (1 ∷ 2 ∷ 3 ∷ []) (tagOf stepped.the-type r)
     → OneOf (1 ∷ 2 ∷ 3 ∷ []) (tagOf walked.the-type (withValue s c r))
-none-taken s c (Stepped.Took k n d) o = o
-none-taken s c Stepped.Finished o = o
-none-taken s c Stepped.Misplaced o = o
-none-taken s c Stepped.Broken o = o
+valued-else s c (Stepped.Took k n d) o = o
+valued-else s c Stepped.Finished o = o
+valued-else s c Stepped.Misplaced o = o
+valued-else s c Stepped.Broken o = o
 
 -- the data lie within the body
 pub within : (s : List ℕ) (c : Cursor) (k n : ℕ) (d : Cursor) → Stepped.Took k n d ≡ stepOf s c → c .place + 5 + n ≤ length s
