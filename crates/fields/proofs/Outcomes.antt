@@ -110,6 +110,16 @@ forward s c f d e =
     let p : d .place ≡ c .place + roomOf (lenAt s (c .place)) = ap (λ (x : Cursor). x .place) (t .next) in
     (omega (arith, t .aligned, t .inside), omega (arith, t .aligned, t .inside), omega (arith, t .aligned, t .inside))
 
+-- its data lie within the field, the field within the body
+pub data-inside : (s : List ℕ) (c : Cursor) (f : Field) (d : Cursor) → walkOf s c ≡ Took f d
+    → (f .place ≡ c .place) × (f .place + 5 + f .len ≤ d .place) × (d .place ≤ length s)
+data-inside s c f d e =
+    let t = taken s c f d e in
+    let p : f .place ≡ c .place = ap (λ (x : Field). x .place) (t .field) in
+    let l : f .len ≡ lenAt s (c .place) = ap (λ (x : Field). x .len) (t .field) in
+    let q : d .place ≡ c .place + roomOf (lenAt s (c .place)) = ap (λ (x : Cursor). x .place) (t .next) in
+    (p, omega arith, omega (arith, t .inside))
+
 pub end-only : (s : List ℕ) (c : Cursor) → walkOf s c ≡ Finished → c .place ≡ length s
 unfolding walkOf
 end-only s c h =
@@ -145,10 +155,3 @@ valued-else s c (Stepped.Took k n d) o = o
 valued-else s c Stepped.Finished o = o
 valued-else s c Stepped.Misplaced o = o
 valued-else s c Stepped.Broken o = o
-
--- the data lie within the body
-pub within : (s : List ℕ) (c : Cursor) (k n : ℕ) (d : Cursor) → Stepped.Took k n d ≡ stepOf s c → c .place + 5 + n ≤ length s
-within s c k n d q =
-    let t = taken s c (fieldOf s c k n) d (valued s c (Stepped.Took k n d) q) in
-    let l : n ≡ lenAt s (c .place) = ap (λ (f : Field). f .len) (t .field) in
-    omega (arith, t .inside)

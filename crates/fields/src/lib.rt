@@ -32,7 +32,7 @@ pub enum Walked {
     Broken,
 }
 
-// The same without the value: of a field, its type and the length of its data.
+// What the walk finds at a cursor, without the value: the field's type and the length of its data, and the cursor after it.
 pub enum Stepped {
     Took(u8, usize, Cursor),
     Finished,
@@ -90,7 +90,7 @@ fn passed(place: usize, in_record: bool, kind: u8) -> Cursor
     }
 }
 
-// What stands at the cursor, without its value: the field's type, the length of its data, and the cursor after it.
+// The walk without the value: it looks at no byte of the data.
 pub fn step(body: &[u8], c: Cursor) -> Stepped
     ensures { λ r. ⌜ r ≡ stepOf (now (body .entry)) c ⌝ }
 {

@@ -3,19 +3,19 @@ use Prim.Native.Nat.{_+_}
 use mathlib.Core.Path.{sym, _∙_}
 use native.Mathlib.Nat.{add-sub-cancel-left}
 use native.Mathlib.Omega.{arith}
-use Rattle.fields.proofs.Outcomes.{valued, within}
+use Rattle.fields.proofs.Outcomes.{data-inside, valued}
 use borrow.Author.Needs.{needs}
 use Rattle.fields.proofs.walk.Statement.{statement}
 use Rattle.fields.proofs.walk.Tie as tie
 
 add-start : tie.Need-add-start
-add-start c = let g = c .before .before .before .before .before .before .args in search (needs, within (g .body .now) (g .c) _ _ _ (sym (c .before .before .kind .given .1) ∙ c .before .before .before .before .step .ensures))
+add-start c = let g = c .before .before .before .before .before .before .args in search (needs, data-inside (g .body .now) (g .c) _ _ (valued (g .body .now) (g .c) _ (sym (c .before .before .kind .given .1) ∙ c .before .before .before .before .step .ensures)))
 
 add-end : tie.Need-add-end
-add-end c = let g = c .before .before .before .before .before .before .args in search (needs, within (g .body .now) (g .c) _ _ _ (sym (c .before .before .kind .given .1) ∙ c .before .before .before .before .step .ensures))
+add-end c = let g = c .before .before .before .before .before .before .args in search (needs, data-inside (g .body .now) (g .c) _ _ (valued (g .body .now) (g .c) _ (sym (c .before .before .kind .given .1) ∙ c .before .before .before .before .step .ensures)))
 
 part-end : tie.Need-part-value-of-end
-part-end c = let g = c .before .before .before .before .before .before .args in omega (arith, within (g .body .now) (g .c) _ _ _ (sym (c .before .before .kind .given .1) ∙ c .before .before .before .before .step .ensures))
+part-end c = let g = c .before .before .before .before .before .before .args in omega (arith, data-inside (g .body .now) (g .c) _ _ (valued (g .body .now) (g .c) _ (sym (c .before .before .kind .given .1) ∙ c .before .before .before .before .step .ensures)))
 
 returns : tie.Need-returns
 returns c =

@@ -4,8 +4,7 @@ use mathlib.Core.Path.{sym, _∙_}
 use native.Mathlib.Omega.{arith}
 use lib.ListN.{length}
 use borrow.Author.Tests.{ne-eqb}
-use Rattle.fields.proofs.Outcomes.{forward, valued, valued-else}
-use Rattle.body.proofs.Along.{data-inside}
+use Rattle.fields.proofs.Outcomes.{forward, data-inside, valued, valued-else}
 use Rattle.body.proofs.Keeps.{Keeps, keeps-start, keeps-stop, keeps-else, keeps-end, keeps-took}
 use borrow.Author.Needs.{needs}
 use Rattle.body.proofs.records.record_at.Statement.{statement}
