@@ -12,7 +12,7 @@ use borrow.Author.Tests.{eqb-true, ltb-false, not-false}
 use Rattle.text.proofs.Tests.{tests}
 use Rattle.fields.specs.Stored.{blocksOf, roomOf, fillOf}
 use Rattle.fields.specs.Step.{withoutValue, stepOf}
-use Rattle.fields.specs.Walk.{walkOf, lenAt, kindAt, dataAt, endWithData, misplaced, broken, fieldAt, passed, after}
+use Rattle.fields.specs.Walk.{walkOf, lenAt, kindAt, endWithData, misplaced, broken, fieldAt, passed, after}
 use Rattle.fields.specs.Value.{valueOf}
 use Rattle.fields.specs.declared.Cursor.{Cursor}
 use Rattle.fields.specs.declared.Field.{Field}
@@ -49,8 +49,9 @@ module _ (s : List ℕ) (c : Cursor) (a : c .place % 16 ≡ 0) (b : c .place ≤
     took h = search (tests, h)
 
     -- made of what stands at the place
-    pub built : (n m : ℕ) (d : Cursor) → endWithData (kindAt s (c .place)) (lenAt s (c .place)) ≡ false → n ≡ lenAt s (c .place) → m ≡ roomOf (lenAt s (c .place))
-        → d ≡ passed (c .place + m) (c .«in_record») (kindAt s (c .place)) → Stepped.Took (kindAt s (c .place)) n d ≡ stepOf s c
+    pub built : (n m : ℕ) (d : Cursor) → endWithData (kindAt s (c .place)) (lenAt s (c .place)) ≡ false
+        → n ≡ lenAt s (c .place) → m ≡ roomOf (lenAt s (c .place)) → d ≡ passed (c .place + m) (c .«in_record») (kindAt s (c .place))
+        → Stepped.Took (kindAt s (c .place)) n d ≡ stepOf s c
     unfolding stepOf
     built n m d h hn hm hd = rw (hd, hn, hm, took h)
 
