@@ -51,14 +51,6 @@ module _ (s : List ℕ) (c : Cursor) (f : Field) (d : Cursor) (e : walkOf s c �
       ap (λ (l : List Stored). eqb (c .place + length (joined l)) (length s)) from-took
       ∙ ap (λ (n : ℕ). eqb n (length s)) (rw (length-append (bytesOf (storedAt s (c .place))) (joined (fieldsFrom s (d .place))), stored-long s (c .place) taken-fits, next-place) (omega arith))
 
-  -- its data lie within the field, the field within the body
-  pub data-inside : (f .place ≡ c .place) × (f .place + 5 + f .len ≤ d .place) × (d .place ≤ length s)
-  data-inside =
-      let t = taken s c f d e in
-      let p : f .place ≡ c .place = ap (λ (x : Field). x .place) (t .field) in
-      let l : f .len ≡ lenAt s (c .place) = ap (λ (x : Field). x .len) (t .field) in
-      (p, omega (arith, next-place), omega (arith, next-place, t .inside))
-
 pub from-end : (s : List ℕ) (c : Cursor) → length s ≤ c .place → fieldsFrom s (c .place) ≡ []
 from-end s c h = from-none s (c .place) (no (leb (c .place + roomOf (lenAt s (c .place))) (length s)) refl)
   where

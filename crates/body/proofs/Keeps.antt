@@ -16,7 +16,7 @@ use Rattle.fields.specs.declared.Cursor.{Cursor}
 use Rattle.fields.specs.declared.Field.{Field}
 use Rattle.fields.specs.declared.Walked.{Walked}
 use Rattle.fields.specs.declared.Walked.the-variants.{Took}
-use Rattle.fields.proofs.Outcomes.{forward}
+use Rattle.fields.proofs.Outcomes.{forward, data-inside}
 use Rattle.fields.proofs.Walked as walked
 use Rattle.body.specs.Sections.{isEnd}
 use Rattle.body.specs.Decision.{storedAt, takenFrom}
@@ -27,7 +27,7 @@ use Rattle.body.specs.declared.records.Spot.the-variants.{At, Absent}
 use Rattle.body.specs.declared.records.Firsts.{Firsts}
 use Rattle.body.specs.declared.records.Record.{Record}
 use Rattle.body.proofs.Division.{data-long}
-use Rattle.body.proofs.Along.{taken-kind, taken-length, taken-fits, next-place, data-inside, fold-took, fold-else, fold-stop}
+use Rattle.body.proofs.Along.{taken-kind, taken-length, taken-fits, next-place, fold-took, fold-else, fold-stop}
 
 -- what was found, or else the first among the fields v from place q on
 abbrev together : Firsts → ℕ → List Stored → Firsts

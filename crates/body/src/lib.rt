@@ -1,6 +1,6 @@
 // The well-formed body: judging it, and finding a record in it. Both go by the one walk.
+use fields::Stepped;
 use fields::Value;
-use fields::Walked;
 
 pub mod records;
 mod tally;
@@ -35,13 +35,13 @@ pub struct Found {
 fn version_first(body: &[u8]) -> bool
     ensures { λ r. ⌜ r ≡ versionFirst (fieldsOf (now (body .entry))) ⌝ }
 {
-    let Walked::Took(f, _) = fields::walk(body, fields::start()) else {
+    let Stepped::Took(kind, len, _) = fields::step(body, fields::start()) else {
         return false;
     };
-    if f.kind != 0x00 {
+    if kind != 0x00 {
         return false;
     }
-    if f.len != 2 {
+    if len != 2 {
         return false;
     }
     body[6] == 0x03
@@ -56,12 +56,12 @@ fn sections(body: &[u8]) -> Judged
     let mut headers: usize = 0;
     let mut records: usize = 0;
     while c.place < body.len() {
-        let Walked::Took(f, next) = fields::walk(body, c) else {
+        let Stepped::Took(kind, len, next) = fields::step(body, c) else {
             return Judged::NotWellFormed;
         };
-        headers += tally::header_field(c.in_record, f.kind);
-        records += tally::record_end(c.in_record, f.kind);
-        x = tally::step(x, c.in_record, f.kind, f.len);
+        headers += tally::header_field(c.in_record, kind);
+        records += tally::record_end(c.in_record, kind);
+        x = tally::step(x, c.in_record, kind, len);
         c = next;
     }
     if x.used {

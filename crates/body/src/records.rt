@@ -1,6 +1,6 @@
 // One record of a body: where the next one starts, how many fields it has, and the first field of each type that others ask for.
 use fields::Cursor;
-use fields::Walked;
+use fields::Stepped;
 ghost use mathlib.Core.Path.{_≡_};
 ghost use Rattle.body.specs.RecordAt.{recordAt, contentAt};
 ghost use Rattle.body.specs.Tally.{orElse, spotIf, noFirsts, firstsWith};
@@ -81,21 +81,21 @@ pub fn record_at(body: &[u8], at: usize) -> Record
     let mut x = none();
     let mut n: usize = 0;
     while c.place < body.len() {
-        let Walked::Took(f, next) = fields::walk(body, c) else {
+        let Stepped::Took(kind, len, next) = fields::step(body, c) else {
             return Record {
                 next: c.place,
                 fields: n,
                 firsts: x,
             };
         };
-        if f.kind == 0xff {
+        if kind == 0xff {
             return Record {
                 next: next.place,
                 fields: n,
                 firsts: x,
             };
         }
-        x = note(x, f.kind, f.place + 5, f.len);
+        x = note(x, kind, c.place + 5, len);
         n += 1;
         c = next;
     }

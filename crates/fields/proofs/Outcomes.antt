@@ -1,20 +1,27 @@
--- What the walk gives and what that says of the body: each by the tests of its definition, taken one by one.
+-- What the walk gives, with the value and without, and what that says of the body: each by the tests of its definition, taken one by one.
 use Prim.Native.Nat.{ℕ, _+_, _-_, _*_, _%_, _<_, _≤_}
-use mathlib.Core.Path.{_≡_, refl, sym, ap}
+use mathlib.Core.Path.{_≡_, refl, sym, ap, _∙_}
 use mathlib.Core.Bool.{Bool, true, false, cond, not, _||_}
-use mathlib.Core.List.{List}
+use mathlib.Core.List.{List, [], _∷_}
 use native.Mathlib.Omega.{arith}
 use lib.Dec.{eqb, ltb}
-use lib.ListN.{length}
+use lib.ListN.{length, take, drop}
+use types.Run.{OneOf}
+use denote.Enum.Declared.{tagOf}
 use borrow.Author.Tests.{eqb-true, ltb-false, not-false}
 use Rattle.text.proofs.Tests.{tests}
 use Rattle.fields.specs.Stored.{blocksOf, roomOf, fillOf}
-use Rattle.fields.specs.Walk.{walkOf, lenAt, kindAt, dataAt, endWithData, misplaced, broken, fieldAt, passed, after}
+use Rattle.fields.specs.Step.{withoutValue, stepOf}
+use Rattle.fields.specs.Walk.{walkOf, lenAt, kindAt, endWithData, misplaced, broken, fieldAt, passed, after}
 use Rattle.fields.specs.Value.{valueOf}
-use Rattle.fields.specs.declared.value.Value.{Value}
 use Rattle.fields.specs.declared.Cursor.{Cursor}
 use Rattle.fields.specs.declared.Field.{Field}
+use Rattle.fields.specs.declared.Stepped.{Stepped}
+use Rattle.fields.specs.declared.Stepped.the-variants as Stepped
+use Rattle.fields.specs.declared.Walked.{Walked}
 use Rattle.fields.specs.declared.Walked.the-variants.{Took, Finished, Misplaced, Broken}
+use Rattle.fields.proofs.Stepped as stepped
+use Rattle.fields.proofs.Walked as walked
 
 -- length, type, data and fill make up the field's blocks
 pub room-fill : (n : ℕ) → 5 + n + fillOf n ≡ roomOf n
@@ -28,25 +35,25 @@ pub blocks-least : (n k : ℕ) → 5 + n ≤ 16 * k → blocksOf n ≤ k
 blocks-least n k h = omega arith
 
 module _ (s : List ℕ) (c : Cursor) (a : c .place % 16 ≡ 0) (b : c .place ≤ length s) (d : c .place ≡ length s → ⊥) (e : 16 ≤ length s - c .place) where
-  pub short : length s - c .place < roomOf (lenAt s (c .place)) → walkOf s c ≡ Broken
-  unfolding walkOf
+  pub short : length s - c .place < roomOf (lenAt s (c .place)) → Stepped.Broken ≡ stepOf s c
+  unfolding walkOf stepOf
   short h = search tests
 
   module _ (f : roomOf (lenAt s (c .place)) ≤ length s - c .place) where
-    pub ended : endWithData (kindAt s (c .place)) (lenAt s (c .place)) ≡ true → walkOf s c ≡ Broken
-    unfolding walkOf
+    pub ended : endWithData (kindAt s (c .place)) (lenAt s (c .place)) ≡ true → Stepped.Broken ≡ stepOf s c
+    unfolding walkOf stepOf
     ended h = search (tests, h)
 
     pub took : endWithData (kindAt s (c .place)) (lenAt s (c .place)) ≡ false → walkOf s c ≡ Took (fieldAt s c) (after s c)
     unfolding walkOf
     took h = search (tests, h)
 
--- a field and a cursor that are made of what stands at the place
-pub built : (s : List ℕ) (c : Cursor) (n m : ℕ) (v : Value) (d : Cursor) → walkOf s c ≡ Took (fieldAt s c) (after s c)
-    → n ≡ lenAt s (c .place) → m ≡ roomOf (lenAt s (c .place)) → v ≡ valueOf (c .«in_record») (kindAt s (c .place)) (dataAt s (c .place))
-    → d ≡ passed (c .place + m) (c .«in_record») (kindAt s (c .place))
-    → Took (record { kind = kindAt s (c .place); place = c .place; len = n; value = v }) d ≡ walkOf s c
-built s c n m v d w hn hm hv hd = rw (w, hd, hn, hm, hv)
+    -- made of what stands at the place
+    pub built : (n m : ℕ) (d : Cursor) → endWithData (kindAt s (c .place)) (lenAt s (c .place)) ≡ false
+        → n ≡ lenAt s (c .place) → m ≡ roomOf (lenAt s (c .place)) → d ≡ passed (c .place + m) (c .«in_record») (kindAt s (c .place))
+        → Stepped.Took (kindAt s (c .place)) n d ≡ stepOf s c
+    unfolding stepOf
+    built n m d h hn hm hd = rw (hd, hn, hm, took h)
 
 pub at-end : (s : List ℕ) (c : Cursor) → c .place % 16 ≡ 0 → c .place ≡ length s → walkOf s c ≡ Finished
 unfolding walkOf
@@ -104,7 +111,48 @@ forward s c f d e =
     let p : d .place ≡ c .place + roomOf (lenAt s (c .place)) = ap (λ (x : Cursor). x .place) (t .next) in
     (omega (arith, t .aligned, t .inside), omega (arith, t .aligned, t .inside), omega (arith, t .aligned, t .inside))
 
+-- its data lie within the field, the field within the body
+pub data-inside : (s : List ℕ) (c : Cursor) (f : Field) (d : Cursor) → walkOf s c ≡ Took f d
+    → (f .place ≡ c .place) × (f .place + 5 + f .len ≤ d .place) × (d .place ≤ length s)
+data-inside s c f d e =
+    let t = taken s c f d e in
+    let p : f .place ≡ c .place = ap (λ (x : Field). x .place) (t .field) in
+    let l : f .len ≡ lenAt s (c .place) = ap (λ (x : Field). x .len) (t .field) in
+    let q : d .place ≡ c .place + roomOf (lenAt s (c .place)) = ap (λ (x : Cursor). x .place) (t .next) in
+    (p, omega arith, omega (arith, t .inside))
+
 pub end-only : (s : List ℕ) (c : Cursor) → walkOf s c ≡ Finished → c .place ≡ length s
 unfolding walkOf
 end-only s c h =
     eqb-true _ _ (by-end (misplaced s (c .place)) (eqb (c .place) (length s)) (broken s (c .place)) (fieldAt s c) (after s c) h)
+
+-- ---- with the value and without
+-- the field at a cursor, of this type and with so many bytes of data
+abbrev pub fieldOf : List ℕ → Cursor → ℕ → ℕ → Field
+fieldOf s c k n = record { kind = k; place = c .place; len = n; value = valueOf (c .«in_record») k (take n (drop (c .place + 5) s)) }
+
+abbrev pub withValue : List ℕ → Cursor → Stepped → Walked
+withValue s c (Stepped.Took k n d) = Took (fieldOf s c k n) d
+withValue s c Stepped.Finished = Finished
+withValue s c Stepped.Misplaced = Misplaced
+withValue s c Stepped.Broken = Broken
+
+pub valued : (s : List ℕ) (c : Cursor) (r : Stepped) → r ≡ stepOf s c → walkOf s c ≡ withValue s c r
+unfolding stepOf
+valued s c r q = by (walkOf s c) refl ∙ ap (withValue s c) (sym q)
+  where
+    by : (w : Walked) → walkOf s c ≡ w → w ≡ withValue s c (withoutValue w)
+    by (Took f d) e =
+        let t = taken s c f d e .field in
+        ap (λ (g : Field). Took g d) (t ∙ ap (λ (g : Field). fieldOf s c (g .kind) (g .len)) (sym t))
+    by Finished e = refl
+    by Misplaced e = refl
+    by Broken e = refl
+
+-- no field without the value, and none with it
+pub valued-else : (s : List ℕ) (c : Cursor) (r : Stepped) → OneOf (1 ∷ 2 ∷ 3 ∷ []) (tagOf stepped.the-type r)
+    → OneOf (1 ∷ 2 ∷ 3 ∷ []) (tagOf walked.the-type (withValue s c r))
+valued-else s c (Stepped.Took k n d) o = o
+valued-else s c Stepped.Finished o = o
+valued-else s c Stepped.Misplaced o = o
+valued-else s c Stepped.Broken o = o

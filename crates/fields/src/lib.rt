@@ -7,6 +7,7 @@ pub use store::append;
 pub use value::Value;
 ghost use mathlib.Core.Path.{_≡_};
 ghost use Rattle.fields.specs.Stored.{roomOf, fillOf};
+ghost use Rattle.fields.specs.Step.{stepOf};
 ghost use Rattle.fields.specs.Walk.{start as startOf, endWithData, passed as passedOf, walkOf};
 
 // Where the walk stands, and whether it is in a record or still in the header.
@@ -26,6 +27,14 @@ pub struct Field {
 // Misplaced is refusal 11, Broken 14.
 pub enum Walked {
     Took(Field, Cursor),
+    Finished,
+    Misplaced,
+    Broken,
+}
+
+// What the walk finds at a cursor, without the value: the field's type and the length of its data, and the cursor after it.
+pub enum Stepped {
+    Took(u8, usize, Cursor),
     Finished,
     Misplaced,
     Broken,
@@ -81,43 +90,56 @@ fn passed(place: usize, in_record: bool, kind: u8) -> Cursor
     }
 }
 
-// The field at the cursor, and the cursor after it.
-pub fn walk(body: &[u8], c: Cursor) -> Walked
-    ensures { λ r. ⌜ r ≡ walkOf (now (body .entry)) c ⌝ }
+// The walk without the value: it looks at no byte of the data.
+pub fn step(body: &[u8], c: Cursor) -> Stepped
+    ensures { λ r. ⌜ r ≡ stepOf (now (body .entry)) c ⌝ }
 {
     let at = c.place;
-    let in_record = c.in_record;
     let n = body.len();
     if at % 16 != 0 {
-        return Walked::Misplaced;
+        return Stepped::Misplaced;
     }
     if n < at {
-        return Walked::Misplaced;
+        return Stepped::Misplaced;
     }
     if at == n {
-        return Walked::Finished;
+        return Stepped::Finished;
     }
     if n - at < 16 {
-        return Walked::Broken;
+        return Stepped::Broken;
     }
     let size = words::numbers::low(body[at], body[at + 1], body[at + 2], body[at + 3]);
     let len = size as usize;
     let kind = body[at + 4];
     let room = room(size);
     if n - at < room {
-        return Walked::Broken;
+        return Stepped::Broken;
     }
     if end_with_data(kind, len) {
-        return Walked::Broken;
+        return Stepped::Broken;
     }
-    let start = at + 5;
-    let end = start + len;
-    let value = value::value_of(in_record, kind, &body[start..end]);
-    let field = Field {
-        kind: kind,
-        place: at,
-        len: len,
-        value: value,
-    };
-    Walked::Took(field, passed(at + room, in_record, kind))
+    Stepped::Took(kind, len, passed(at + room, c.in_record, kind))
+}
+
+// The field at the cursor, and the cursor after it.
+pub fn walk(body: &[u8], c: Cursor) -> Walked
+    ensures { λ r. ⌜ r ≡ walkOf (now (body .entry)) c ⌝ }
+{
+    match step(body, c) {
+        Stepped::Took(kind, len, next) => {
+            let start = c.place + 5;
+            let end = start + len;
+            let value = value::value_of(c.in_record, kind, &body[start..end]);
+            let field = Field {
+                kind: kind,
+                place: c.place,
+                len: len,
+                value: value,
+            };
+            Walked::Took(field, next)
+        }
+        Stepped::Finished => Walked::Finished,
+        Stepped::Misplaced => Walked::Misplaced,
+        Stepped::Broken => Walked::Broken,
+    }
 }

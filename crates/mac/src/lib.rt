@@ -1,6 +1,6 @@
 // The HMAC of a body: over the data bytes of its fields, in order, as far as the walk takes any.
 use fields::Cursor;
-use fields::Walked;
+use fields::Stepped;
 use sha256::Mac;
 use sha256::hmac;
 ghost use mathlib.Core.Path.{_≡_};
@@ -18,7 +18,7 @@ fn behind(body: &[u8], at: usize) -> usize
         place: at,
         in_record: false,
     };
-    let Walked::Took(_, next) = fields::walk(body, c) else {
+    let Stepped::Took(_, _, next) = fields::step(body, c) else {
         return at;
     };
     next.place

@@ -1,40 +1,42 @@
 -- `body::version_first` meets its contract: what the walk at the start gives says whether the first field is Version.
-use mathlib.Core.Path.{_≡_, sym, ap, _∙_}
+use mathlib.Core.Path.{sym, ap, _∙_}
 use native.Mathlib.Omega.{arith}
 use Rattle.text.proofs.Tests.{tests}
 use Rattle.fields.specs.Walk.{walkOf, start}
-use Rattle.fields.specs.declared.Walked.the-variants.{Took}
-use Rattle.fields.proofs.Outcomes.{forward}
+use Rattle.fields.proofs.Outcomes.{forward, valued, valued-else}
 use Rattle.body.proofs.FirstField.{version-took, version-none}
 use borrow.Author.Needs.{needs}
 use Rattle.body.proofs.version_first.Statement.{statement}
 use Rattle.body.proofs.version_first.Tie as tie
 
 returns : tie.Need-returns
-returns c = version-none (c .before .before .before .before .args .body .now) (c .before .walk .result) (c .before .walk .ensures ∙ ap (walkOf (c .before .before .before .before .args .body .now)) (c .before .before .start .ensures)) (c .match .keys2)
+returns c =
+    let s = c .before .before .before .before .args .body .now in
+    let w = ap (walkOf s) (sym (c .before .before .start .ensures)) ∙ valued s _ _ (c .before .step .ensures) in
+    version-none s _ (sym w) (valued-else s (c .before .before .start .result) (c .before .step .result) (c .match .keys2))
 
 returns-2 : tie.Need-returns-2
 returns-2 c =
-    let s = c .before .before .before .before .before .before .before .before .args .body .now in
-    let took : walkOf s start ≡ Took (c .before .before .before .f .given .0 .0) (c .before .before .before .f .given .0 .1 .0) = ap (walkOf s) (sym (c .before .before .before .before .before .before .start .ensures)) ∙ sym (c .before .before .before .before .before .walk .ensures) ∙ c .before .before .before .f .given .1 in
+    let s = c .before .before .before .before .before .before .before .args .body .now in
+    let took = ap (walkOf s) (sym (c .before .before .before .before .before .start .ensures)) ∙ valued s _ _ (sym (c .before .before .kind .given .1) ∙ c .before .before .before .before .step .ensures) in
     rw (← version-took s _ _ took) (search tests)
 
 returns-3 : tie.Need-returns-3
 returns-3 c =
-    let s = c .before .before .before .before .before .before .before .before .before .before .args .body .now in
-    let took : walkOf s start ≡ Took (c .before .before .before .before .before .f .given .0 .0) (c .before .before .before .before .before .f .given .0 .1 .0) = ap (walkOf s) (sym (c .before .before .before .before .before .before .before .before .start .ensures)) ∙ sym (c .before .before .before .before .before .before .before .walk .ensures) ∙ c .before .before .before .before .before .f .given .1 in
+    let s = c .before .before .before .before .before .before .before .before .args .body .now in
+    let took = ap (walkOf s) (sym (c .before .before .before .before .before .before .start .ensures)) ∙ valued s _ _ (sym (c .before .before .before .kind .given .1) ∙ c .before .before .before .before .before .step .ensures) in
     rw (← version-took s _ _ took) (search tests)
 
 shared-slice-read-result : tie.Need-shared-slice-read-result
 shared-slice-read-result c =
-    let s = c .before .before .before .before .before .before .before .before .before .before .before .args .body .now in
-    let took : walkOf s start ≡ Took (c .before .before .before .before .before .before .f .given .0 .0) (c .before .before .before .before .before .before .f .given .0 .1 .0) = ap (walkOf s) (sym (c .before .before .before .before .before .before .before .before .before .start .ensures)) ∙ sym (c .before .before .before .before .before .before .before .before .walk .ensures) ∙ c .before .before .before .before .before .before .f .given .1 in
+    let s = c .before .before .before .before .before .before .before .before .before .args .body .now in
+    let took = ap (walkOf s) (sym (c .before .before .before .before .before .before .before .start .ensures)) ∙ valued s _ _ (sym (c .before .before .before .before .kind .given .1) ∙ c .before .before .before .before .before .before .step .ensures) in
     omega (arith, forward s start _ _ took)
 
 returns-4 : tie.Need-returns-4
 returns-4 c =
-    let s = c .before .before .before .before .before .before .before .before .before .before .before .args .body .now in
-    let took : walkOf s start ≡ Took (c .before .before .before .before .before .before .f .given .0 .0) (c .before .before .before .before .before .before .f .given .0 .1 .0) = ap (walkOf s) (sym (c .before .before .before .before .before .before .before .before .before .start .ensures)) ∙ sym (c .before .before .before .before .before .before .before .before .walk .ensures) ∙ c .before .before .before .before .before .before .f .given .1 in
+    let s = c .before .before .before .before .before .before .before .before .before .args .body .now in
+    let took = ap (walkOf s) (sym (c .before .before .before .before .before .before .before .start .ensures)) ∙ valued s _ _ (sym (c .before .before .before .before .kind .given .1) ∙ c .before .before .before .before .before .before .step .ensures) in
     rw (← version-took s _ _ took) (search tests)
 
 pub version-first-spec : {M : Type 1} → statement M

@@ -1,90 +1,53 @@
--- `fields::walk` meets its contract: the early returns are the tests of the definition, and the field and the cursor are made of what stands at the place.
-use Prim.Native.Nat.{ℕ, _+_}
-use mathlib.Core.Path.{_≡_, _∙_, sym, ap}
+-- `fields::walk` meets its contract: the step's answer with the value of the data at the place.
+use Prim.Native.Nat.{_+_}
+use mathlib.Core.Path.{sym, _∙_}
 use native.Mathlib.Nat.{add-sub-cancel-left}
-use lib.ListN.{take, drop}
-use Rattle.words.specs.Numbers.{numberLow}
-use Rattle.text.proofs.Tests.{tests}
-use Rattle.fields.specs.Stored.{roomOf}
-use Rattle.fields.specs.Value.{valueOf}
-use Rattle.fields.specs.Walk.{walkOf, lenAt, kindAt}
-use Rattle.words.proofs.Places.{four-at}
-use Rattle.fields.proofs.Outcomes.{short, ended, took, built}
+use native.Mathlib.Omega.{arith}
+use Rattle.fields.proofs.Outcomes.{data-inside, valued}
 use borrow.Author.Needs.{needs}
 use Rattle.fields.proofs.walk.Statement.{statement}
 use Rattle.fields.proofs.walk.Tie as tie
 
+add-start : tie.Need-add-start
+add-start c = let g = c .before .before .before .before .before .before .args in search (needs, data-inside (g .body .now) (g .c) _ _ (valued (g .body .now) (g .c) _ (sym (c .before .before .kind .given .1) ∙ c .before .before .before .before .step .ensures)))
+
+add-end : tie.Need-add-end
+add-end c = let g = c .before .before .before .before .before .before .args in search (needs, data-inside (g .body .now) (g .c) _ _ (valued (g .body .now) (g .c) _ (sym (c .before .before .kind .given .1) ∙ c .before .before .before .before .step .ensures)))
+
+part-end : tie.Need-part-value-of-end
+part-end c = let g = c .before .before .before .before .before .before .args in omega (arith, data-inside (g .body .now) (g .c) _ _ (valued (g .body .now) (g .c) _ (sym (c .before .before .kind .given .1) ∙ c .before .before .before .before .step .ensures)))
+
 returns : tie.Need-returns
-unfolding walkOf
-returns c = search tests
+returns c =
+    let g = c .before .before .before .before .before .before .before .before .args in
+    let w = valued (g .body .now) (g .c) _ (sym (c .before .before .before .before .kind .given .1) ∙ c .before .before .before .before .before .before .step .ensures) in
+    rw (w, c .value-of .ensures, add-sub-cancel-left (g .c .place + 5) (c .before .before .before .before .kind .given .0 .1 .0))
 
 returns-2 : tie.Need-returns-2
-unfolding walkOf
-returns-2 c = search tests
+returns-2 c = let g = c .before .before .before .before .args in sym (valued (g .body .now) (g .c) _ (sym (c .enum-told .given .1) ∙ c .before .before .step .ensures))
 
 returns-3 : tie.Need-returns-3
-unfolding walkOf
-returns-3 c = search tests
+returns-3 c = let g = c .before .before .before .before .args in sym (valued (g .body .now) (g .c) _ (sym (c .enum-told2 .given .1) ∙ c .before .before .step .ensures))
 
 returns-4 : tie.Need-returns-4
-unfolding walkOf
-returns-4 c = search tests
-
-returns-5 : tie.Need-returns-5
-returns-5 c =
-    let s = c .before .before .before .before .before .before .before .before .before .before .before .before .before .args .body .now in
-    let u = c .before .before .before .before .before .before .before .before .before .before .before .before .before .args .c in
-    let len : c .before .before .before .low .result ≡ lenAt s (u .place) = c .before .before .before .low .ensures ∙ ap numberLow (sym (four-at s (u .place) (search needs))) in
-    let big : c .before .room .result ≡ roomOf (lenAt s (u .place)) = c .before .room .ensures ∙ ap roomOf len in
-    sym (short s u (search needs) (search needs) (c .before .before .before .before .before .before .before .before .before .if3 .left) (search needs) (rw big at (c .if5 .taken)))
-
-returns-6 : tie.Need-returns-6
-returns-6 c =
-    let s = c .before .before .before .before .before .before .before .before .before .before .before .before .before .before .before .args .body .now in
-    let u = c .before .before .before .before .before .before .before .before .before .before .before .before .before .before .before .args .c in
-    let len : c .before .before .before .before .before .low .result ≡ lenAt s (u .place) = c .before .before .before .before .before .low .ensures ∙ ap numberLow (sym (four-at s (u .place) (search needs))) in
-    let big : c .before .before .before .room .result ≡ roomOf (lenAt s (u .place)) = c .before .before .before .room .ensures ∙ ap roomOf len in
-    sym (ended s u (search needs) (search needs) (c .before .before .before .before .before .before .before .before .before .before .before .if3 .left) (search needs) (rw big at (c .before .before .if5 .left)) (rw len at (sym (c .before .end-with-data .ensures) ∙ c .if6 .taken)))
-
-returns-7 : tie.Need-returns-7
-returns-7 c =
-    let s = c .before .before .before .before .before .before .before .before .before .before .before .before .before .before .before .before .before .before .args .body .now in
-    let u = c .before .before .before .before .before .before .before .before .before .before .before .before .before .before .before .before .before .before .args .c in
-    let len : c .before .before .before .before .before .before .before .before .low .result ≡ lenAt s (u .place) = c .before .before .before .before .before .before .before .before .low .ensures ∙ ap numberLow (sym (four-at s (u .place) (search needs))) in
-    let big : c .before .before .before .before .before .before .room .result ≡ roomOf (lenAt s (u .place)) = c .before .before .before .before .before .before .room .ensures ∙ ap roomOf len in
-    let t = took s u (search needs) (search needs) (c .before .before .before .before .before .before .before .before .before .before .before .before .before .before .if3 .left) (search needs) (rw big at (c .before .before .before .before .before .if5 .left)) (rw len at (sym (c .before .before .before .before .end-with-data .ensures) ∙ c .before .before .before .if6 .left)) in
-    let part = add-sub-cancel-left (u .place + 5) (c .before .before .before .before .before .before .before .before .low .result) ∙ len in
-    built s u _ _ _ _ t len big (c .before .value-of .ensures ∙ ap (λ (m : ℕ). valueOf (u .«in_record») (kindAt s (u .place)) (take m (drop (u .place + 5) s))) part) (c .passed .ensures)
+returns-4 c = let g = c .before .before .before .before .args in sym (valued (g .body .now) (g .c) _ (sym (c .enum-told3 .given .1) ∙ c .before .before .step .ensures))
 
 pub walk-spec : {M : Type 1} → statement M
 walk-spec =
     tie.close
     (tie.spec
+    (λ c κs. search needs)
+    (λ c. search needs)
+    add-start
+    add-end
+    (λ c. search needs)
+    (λ c. search needs)
+    part-end
+    (λ c κs. search needs)
+    (λ c. search needs)
+    (λ c. search needs)
+    (λ c. search needs)
     returns
     returns-2
     returns-3
-    returns-4
-    (λ c. search needs)
-    (λ c. search needs)
-    (λ c. search needs)
-    (λ c. search needs)
-    (λ c. search needs)
-    (λ c. search needs)
-    (λ c. search needs)
-    (λ c κs. search needs)
-    (λ c. search needs)
-    (λ c. search needs)
-    (λ c. search needs)
-    (λ c κs. search needs)
-    returns-5
-    (λ c κs. search needs)
-    returns-6
-    (λ c. search needs)
-    (λ c. search needs)
-    (λ c. search needs)
-    (λ c. search needs)
-    (λ c. search needs)
-    (λ c κs. search needs)
-    (λ c. search needs)
-    (λ c κs. search needs)
-    returns-7)
+    returns-4)
