@@ -1,4 +1,4 @@
--- `twofish::beside::decrypt` meets its contract: what is left of the 16 rounds back of threefold block, with 2 i still to go, ends in the same blocks.
+-- `twofish::beside::decrypt` meets its contract: what is left of the 16 rounds back of each block, with 2 i still to go, ends in the same blocks.
 use Rattle.twofish.specs.Cipher.{whiten, swap, unround, unrounds, decrypt}
 use Rattle.words.specs.Table.{at}
 use Rattle.twofish.specs.Tabled.{tabledG, tabledDecrypt}
