@@ -12,13 +12,13 @@ use Rattle.body.specs.Division.{joined}
 use Rattle.body.specs.Sections.{runs}
 use Rattle.body.specs.WellFormed.{WellFormed}
 use Rattle.body.specs.Decision.{fieldsOf, wellFormed, headerIn, recordsIn, headersOf, recordsOf, judgedOf, judgeNumber, judgeValues}
-use Rattle.body.specs.Find.{has, firstWith, soughtIn, findOf, findNumber, findValues}
+use Rattle.body.specs.Find.{has, firstWith, soughtIn, visitedIn, findOf, findNumber, findValues}
 use Rattle.body.specs.declared.Judged.{Judged}
 use Rattle.body.specs.declared.Judged.the-variants as judged
 use Rattle.body.specs.declared.Sought.{Sought}
 use Rattle.body.specs.declared.Sought.the-variants as sought
 use Rattle.body.specs.declared.Found.{Found}
-use Rattle.body.proofs.Decided.{well-formed, decides, header-is, records-are, counts-are}
+use Rattle.body.proofs.Decided.{well-formed, decides, fields-are, header-is, records-are, counts-are}
 
 by-counts : (b : Bool) (h n h′ n′ : ℕ) → cond b (judged.Counts h n) judged.NotWellFormed ≡ judged.Counts h′ n′ → b ≡ true
 by-counts true h n h′ n′ e = refl
@@ -98,9 +98,9 @@ unfolding judgedOf
 judge-is s w = let c = counts-are s w in rw (decides s w, c .0, c .1)
 
 pub find-is : (s : List ℕ) (a b : ℕ) (w : WellFormed s)
-    → findOf s a b ≡ record { sought = firstWith a b 0 (length (joined (w .header)) + 16) (w .records) }
+    → findOf s a b ≡ record { sought = firstWith a b 0 (length (joined (w .header)) + 16) (w .records); visited = length (visitedIn a b false (w .fields)) }
 unfolding findOf
-find-is s a b w = rw (decides s w, header-is s w, records-are s w)
+find-is s a b w = rw (decides s w, header-is s w, records-are s w, fields-are s w)
 
 -- refused
 not-formed : (s : List ℕ) → Bytes s → (WellFormed s → ⊥) → wellFormed s ≡ false
@@ -114,6 +114,6 @@ pub judge-not : (s : List ℕ) → Bytes s → (WellFormed s → ⊥) → judged
 unfolding judgedOf
 judge-not s b n = rw (not-formed s b n)
 
-pub find-not : (s : List ℕ) (u v : ℕ) → Bytes s → (WellFormed s → ⊥) → findOf s u v ≡ record { sought = sought.NotWellFormed }
+pub find-not : (s : List ℕ) (u v : ℕ) → Bytes s → (WellFormed s → ⊥) → findOf s u v ≡ record { sought = sought.NotWellFormed; visited = 0 }
 unfolding findOf
 find-not s u v b n = rw (not-formed s b n)

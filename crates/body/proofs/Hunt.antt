@@ -1,115 +1,101 @@
--- The loop over the records finds what the definition finds: where it stands, what the records ahead give is what the body gives. And 16 bytes are a UUID by their value.
-use Prim.Native.Nat.{ℕ, _+_, _<_, _≤_}
-use mathlib.Core.Path.{_≡_, refl, sym, ap, _∙_}
-use mathlib.Core.Bool.{Bool, true, false, cond, _&&_}
-use mathlib.Core.Logic.{⊎-elim}
+-- Where the loop of the search stands: with the fields that are left, it comes to what the search comes to over all that the walk takes.
+use Prim.Native.Nat.{ℕ, _+_, _-_, _≤_, _<_}
+use mathlib.Core.Path.{_≡_, refl, sym, ap, ap₂, _∙_}
+use mathlib.Core.Bool.{Bool, true, false, cond, _||_}
 use mathlib.Core.List.{List, [], _∷_}
+use native.Mathlib.Nat.{add-sub-cancel-left}
 use native.Mathlib.Omega.{arith}
 use lib.Dec.{eqb}
 use lib.ListN.{length, take, drop}
 use types.Run.{OneOf}
 use denote.Enum.Declared.{tagOf}
-use borrow.Author.Tests.{eqb-true}
-use Rattle.words.specs.Numbers.{numberLow}
-use Rattle.fields.specs.Stored.{Stored}
-use Rattle.fields.specs.Value.{recordShape, valueOf}
-use Rattle.fields.specs.declared.value.Value.{Value}
-use Rattle.fields.specs.declared.value.Value.the-variants as Value
-use Rattle.fields.proofs.value.Value as value
-use Rattle.body.specs.Division.{joined}
-use Rattle.body.specs.Sections.{runs}
-use Rattle.body.specs.Decision.{fieldsOf, wellFormed, recordsIn}
-use Rattle.body.specs.RecordAt.{recordAt, contentAt}
-use Rattle.body.specs.Find.{isUuid, has, firstWith, soughtIn}
+use Rattle.fields.specs.Stored.{Stored, roomOf}
+use Rattle.fields.specs.Walk.{walkOf, lenAt, dataAt, start}
+use Rattle.fields.specs.declared.Cursor.{Cursor}
+use Rattle.fields.specs.declared.Field.{Field}
+use Rattle.fields.specs.declared.Walked.{Walked}
+use Rattle.fields.specs.declared.Walked.the-variants.{Took}
+use Rattle.fields.proofs.Walked as walked
+use Rattle.fields.proofs.Outcomes.{taken, forward}
+use Rattle.body.specs.Sections.{isEnd}
+use Rattle.body.specs.Decision.{storedAt, takenFrom}
+use Rattle.body.specs.Find.{isMatch}
+use Rattle.body.specs.Search.{first, visitOf, searched}
 use Rattle.body.specs.declared.Sought.the-variants.{At, Nowhere}
-use Rattle.body.specs.declared.records.Record.{Record}
-use Rattle.body.proofs.Ahead.{Ahead, Met, ahead-start, ahead-turn, ahead-stop}
+use Rattle.body.specs.declared.Found.{Found}
+use Rattle.body.specs.declared.search.Search.{Search}
+use Rattle.body.proofs.Division.{data-long}
+use Rattle.body.proofs.Along.{taken-kind, taken-fits, next-place, fold-took, fold-else, fold-stop}
 
--- ---- the UUID as a value
-module _ (d : List ℕ) (a b : ℕ) where
-  abbrev uuid : Value
-  uuid = Value.Uuid (numberLow (take 8 d)) (numberLow (take 8 (drop 8 d)))
+-- what the search comes to
+abbrev all : List ℕ → ℕ → ℕ → Found
+all s a b = searched a b (first 0 0) false 0 (takenFrom s 0)
 
-  value-is : valueOf true 0x01 d ≡ cond (eqb (length d) 0) Value.Empty (cond (eqb (length d) 16) uuid Value.Misshapen)
-  unfolding valueOf recordShape
-  value-is = refl
+-- The cursor c, and what is kept of the fields before it: each takes a block at least, and each record one field at least.
+pub record Hunts (s : List ℕ) (a b : ℕ) (c : Cursor) (x : Search) : Type 0 where
+  pub few : x .number ≤ x .visited
+  pub small : x .visited ≤ c .place
+  rest : searched a b x (c .«in_record») (c .place) (takenFrom s (c .place)) ≡ all s a b
 
-  pub uuid-took : (x y : ℕ) → valueOf true 0x01 d ≡ Value.Uuid x y → (eqb x a && eqb y b) ≡ isUuid d a b
-  unfolding isUuid
-  uuid-took x y e = by (eqb (length d) 0) (eqb (length d) 16) (sym value-is ∙ e)
-    where
-      by : (z t : Bool) → cond z Value.Empty (cond t uuid Value.Misshapen) ≡ Value.Uuid x y
-          → (eqb x a && eqb y b) ≡ (t && (eqb (numberLow (take 8 d)) a && eqb (numberLow (take 8 (drop 8 d))) b))
-      by true t e = absurd (let z : _≡_ {A = ℕ} 0 1 = cc in omega arith)
-      by false true e = let i : x ≡ numberLow (take 8 d) = cc in let j : y ≡ numberLow (take 8 (drop 8 d)) = cc in rw (i, j)
-      by false false e = absurd (let z : _≡_ {A = ℕ} 0 1 = cc in omega arith)
+pub hunts-start : (s : List ℕ) (a b : ℕ) → Hunts s a b start (first 0 0)
+hunts-start s a b = record { few = omega arith; small = omega arith; rest = refl }
 
-  pub uuid-else : (v : Value) → v ≡ valueOf true 0x01 d → OneOf (0 ∷ 1 ∷ 3 ∷ 4 ∷ 5 ∷ 6 ∷ 7 ∷ 8 ∷ 9 ∷ []) (tagOf value.the-type v) → false ≡ isUuid d a b
-  unfolding isUuid
-  uuid-else v e o = by (eqb (length d) 0) (eqb (length d) 16) refl refl (e ∙ value-is)
-    where
-      by : (z t : Bool) → eqb (length d) 0 ≡ z → eqb (length d) 16 ≡ t → v ≡ cond z Value.Empty (cond t uuid Value.Misshapen)
-          → false ≡ (t && (eqb (numberLow (take 8 d)) a && eqb (numberLow (take 8 (drop 8 d))) b))
-      by z false i j k = refl
-      by true true i j k = absurd (omega (arith, eqb-true (length d) 0 i, eqb-true (length d) 16 j))
-      by false true i j k =
-          let t : OneOf (0 ∷ 1 ∷ 3 ∷ 4 ∷ 5 ∷ 6 ∷ 7 ∷ 8 ∷ 9 ∷ []) (tagOf value.the-type uuid) = rw k at o in
-          absurd (⊎-elim (λ z. omega arith) (⊎-elim (λ z. omega arith) (⊎-elim (λ z. omega arith) (⊎-elim (λ z. omega arith) (⊎-elim (λ z. omega arith) (⊎-elim (λ z. omega arith) (⊎-elim (λ z. omega arith) (⊎-elim (λ z. omega arith) (λ z. omega arith)))))))) t)
+-- an END brings one record more at the most
+visit-number : (x : Search) (r : Bool) (k q : ℕ) → visitOf x r k q .number ≤ x .number + 1
+visit-number x r k q = by (eqb k 0xff) r
+  where
+    by : (e o : Bool) → cond e (cond o (x .number + 1) 0) (x .number) ≤ x .number + 1
+    by true true = omega arith
+    by true false = omega arith
+    by false o = omega arith
 
--- ---- the loop
--- At place p the record of number n is next.
-pub record Hunts (s : List ℕ) (a b p n : ℕ) : Type 0 where
-  records : List (List Stored)
-  ahead : Ahead s p records
-  pub few : n ≤ p
-  rest : firstWith a b n p records ≡ soughtIn a b (runs (fieldsOf s))
+module _ (s : List ℕ) (a b : ℕ) (c : Cursor) (x : Search) (t : Hunts s a b c x) where
+  pub hunts-stop : length s ≤ c .place → record { sought = Nowhere; visited = x .visited } ≡ all s a b
+  unfolding searched
+  hunts-stop h = fold-stop (searched a b x (c .«in_record») (c .place)) _ s c (t .rest) h
 
-pub hunts-start : (s : List ℕ) (a b : ℕ) (h : Record) → wellFormed s ≡ true → h ≡ recordAt s 0 → Hunts s a b (h .next) 0
-hunts-start s a b h w e =
-    let t = ahead-start s h w e in
-    record {
-      records = recordsIn (runs (fieldsOf s));
-      ahead = t .0;
-      few = omega arith;
-      rest = ap (λ (q : ℕ). firstWith a b 0 q (recordsIn (runs (fieldsOf s)))) (t .1);
-    }
+  pub hunts-else : (w : Walked) → w ≡ walkOf s c → OneOf (1 ∷ 2 ∷ 3 ∷ []) (tagOf walked.the-type w) → record { sought = Nowhere; visited = x .visited } ≡ all s a b
+  unfolding searched
+  hunts-else w q o = fold-else (searched a b x (c .«in_record») (c .place)) _ s c (t .rest) w q o
 
-module _ (s : List ℕ) (a b p n : ℕ) (t : Hunts s a b p n) where
-  pub hunts-stop : length s ≤ p → Nowhere ≡ soughtIn a b (runs (fieldsOf s))
-  unfolding firstWith
-  hunts-stop h = ap (firstWith a b n p) (sym (ahead-stop s p (t .records) (t .ahead) h)) ∙ t .rest
+  module _ (f : Field) (d : Cursor) (e : walkOf s c ≡ Took f d) where
+    abbrev g : Stored
+    g = storedAt s (c .place)
 
-  module _ (r : Record) (h : p < length s) (e : r ≡ recordAt s p) where
-    met : Met s p (t .records) r
-    met = ahead-turn s p (t .records) r (t .ahead) h e
+    far : c .place + roomOf (length (g .content)) ≡ d .place
+    far = ap (λ (m : ℕ). c .place + roomOf m) (data-long s (c .place) (taken-fits s c f d e)) ∙ sym (next-place s c f d e)
 
-    abbrev u : List Stored
-    u = met .u
+    -- the data as the loop cuts them out
+    cut : take (c .place + 5 + f .len - (c .place + 5)) (drop (c .place + 5) s) ≡ g .content
+    cut = ap (λ (n : ℕ). take n (drop (c .place + 5) s)) (add-sub-cancel-left (c .place + 5) (f .len) ∙ ap (λ (y : Field). y .len) (taken s c f d e .field))
 
-    abbrev us : List (List Stored)
-    us = met .us
+    next : cond (isMatch a b (c .«in_record») (g .kind) (g .content)) (record { sought = At (x .number) (x .start); visited = x .visited + 1 })
+        (searched a b (visitOf x (c .«in_record») (g .kind) (c .place + roomOf (length (g .content)))) (c .«in_record» || isEnd g) (c .place + roomOf (length (g .content))) (takenFrom s (d .place))) ≡ all s a b
+    unfolding searched
+    next = fold-took (searched a b x (c .«in_record») (c .place)) _ s c (t .rest) f d e
 
-    pub hunts-further : (p + 16 ≤ r .next) × (r .next ≤ length s)
-    hunts-further = (omega (arith, met .next), met .within)
+    pub hunts-inside : (x .number ≤ x .visited) × (x .visited + 16 ≤ d .place) × (d .place ≤ length s)
+    hunts-inside = let w = forward s c f d e in (t .few, omega (arith, t .small, w .0), w .1)
 
-    next : cond (has a b u) (At n p) (firstWith a b (n + 1) (p + length (joined u) + 16) us) ≡ soughtIn a b (runs (fieldsOf s))
-    unfolding firstWith
-    next = ap (firstWith a b n p) (sym (met .are)) ∙ t .rest
+    module _ (m : Bool) (k : m ≡ isMatch a b (c .«in_record») (f .kind) (take (c .place + 5 + f .len - (c .place + 5)) (drop (c .place + 5) s))) where
+      tested : isMatch a b (c .«in_record») (g .kind) (g .content) ≡ m
+      tested = sym (k ∙ ap₂ (λ (i : ℕ) (y : List ℕ). isMatch a b (c .«in_record») i y) (taken-kind s c f d e) cut)
 
-    -- what stands at the spot of the UUID
-    module _ (d : List ℕ) (k : d ≡ contentAt s (r .firsts .uuid)) where
-      tested : has a b u ≡ isUuid d a b
-      tested = ap (λ (x : List ℕ). isUuid x a b) (sym (k ∙ met .uuid))
+      pub hunts-found : m ≡ true → record { sought = At (x .number) (x .start); visited = x .visited + 1 } ≡ all s a b
+      hunts-found h = rw (tested ∙ h) at next
 
-      pub hunts-found : isUuid d a b ≡ true → At n p ≡ soughtIn a b (runs (fieldsOf s))
-      hunts-found m = ap (λ (x : Bool). cond x (At n p) (firstWith a b (n + 1) (p + length (joined u) + 16) us)) (sym (tested ∙ m)) ∙ next
-
-      pub hunts-next : isUuid d a b ≡ false → Hunts s a b (r .next) (n + 1)
-      hunts-next m =
+      pub hunts-next : m ≡ false → (x′ : Search) → x′ ≡ visitOf x (c .«in_record») (f .kind) (d .place) → Hunts s a b d x′
+      hunts-next h x′ i =
+          let w = forward s c f d e in
+          let r = c .«in_record» in
+          let z : searched a b (visitOf x r (g .kind) (c .place + roomOf (length (g .content)))) (r || isEnd g) (c .place + roomOf (length (g .content))) (takenFrom s (d .place)) ≡ all s a b = rw (tested ∙ h) at next in
+          let j : x′ ≡ visitOf x r (g .kind) (c .place + roomOf (length (g .content))) = i ∙ ap₂ (λ (n p : ℕ). visitOf x r n p) (taken-kind s c f d e) (sym far) in
+          let v : x′ .visited ≡ x .visited + 1 = ap (λ (y : Search). y .visited) i in
+          let n : x′ .number ≤ x .number + 1 = rw i (visit-number x r (f .kind) (d .place)) in
+          let l : d .«in_record» ≡ r || isEnd g = ap (λ (y : Cursor). y .«in_record») (taken s c f d e .next) in
           record {
-            records = us;
-            ahead = met .ahead;
-            few = omega (arith, t .few, met .next);
-            rest = ap (λ (q : ℕ). firstWith a b (n + 1) q us) (met .next)
-                ∙ ap (λ (x : Bool). cond x (At n p) (firstWith a b (n + 1) (p + length (joined u) + 16) us)) (sym (tested ∙ m)) ∙ next;
+            few = omega (arith, t .few);
+            small = omega (arith, t .small, w .0);
+            rest = ap (λ (y : Search). searched a b y (d .«in_record») (d .place) (takenFrom s (d .place))) j
+                ∙ ap₂ (λ (o : Bool) (p : ℕ). searched a b (visitOf x r (g .kind) (c .place + roomOf (length (g .content)))) o p (takenFrom s (d .place))) l (sym far) ∙ z;
           }

@@ -10,7 +10,9 @@ pub mod Ahead
 mod Keeps
 mod FirstField
 mod Stands
+mod UuidValue
 mod Hunt
+mod Searched
 pub mod Answers
 pub mod FindCall
 pub mod Kept

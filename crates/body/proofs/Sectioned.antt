@@ -197,7 +197,7 @@ module _ (s : List ℕ) where
   left-before : {p : ℕ} {u : List Stored} {us : List (List Stored)} → Left s p (u ∷ us) → length s ≤ p → ⊥
   left-before {p} {u} {us} l h = run-none u us (ap runs (sym (taken-stop s (inside p) h)) ∙ l .parted)
 
-  left-stop : {p : ℕ} → Left s p [] → p ≡ length s
+  pub left-stop : {p : ℕ} → Left s p [] → p ≡ length s
   left-stop {p} l = by (takenFrom s p) refl
     where
       more : (f : Stored) (fs : List Stored) → runs (f ∷ fs) ≡ [] ∷ [] → (b : Bool) → isEnd f ≡ b → ⊥
@@ -230,10 +230,13 @@ module _ (s : List ℕ) where
       let n : length rs ≡ length (rs ++ ([] ∷ [])) - 1 = simp length-append (omega arith) in
       (x .0, y .0, rw (t .2, take-at rs ([] ∷ []) (length (rs ++ ([] ∷ [])) - 1) n), rw (t .2, take-at rs ([] ∷ []) (length (rs ++ ([] ∷ [])) - 1) n) (t .4))
 
+  pub taken-all : wellFormed s ≡ true → takenFrom s 0 ≡ fieldsOf s
+  taken-all h = walkable-all (fieldsOf s) (sections-are h .1)
+
   pub left-start : wellFormed s ≡ true → Left s 0 (headerIn (runs (fieldsOf s)) ∷ recordsIn (runs (fieldsOf s)))
   left-start h =
       let x = sections-are h in
-      let all : takenFrom s 0 ≡ fieldsOf s = walkable-all (fieldsOf s) (x .1) in
+      let all : takenFrom s 0 ≡ fieldsOf s = taken-all h in
       record { reach = ap (λ (l : List Stored). 0 + length (joined l)) all ∙ eqb-true _ _ (x .0); parted = ap runs all ∙ x .2 }
 
   pub good-start : wellFormed s ≡ true → Each GoodRecord (recordsIn (runs (fieldsOf s)))

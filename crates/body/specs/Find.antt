@@ -1,7 +1,7 @@
--- Find: the first record with the UUID, by its number from 0 and the place of its first field; none; or 9.
+-- Find: the first record with the UUID, by its number from 0 and the place of its first field; none; or 9. And how many fields it visits (document 02, Q-10).
 use Prim.Native.Nat.{ℕ, _+_}
 use mathlib.Core.Path.{_≡_}
-use mathlib.Core.Bool.{Bool, true, cond, _&&_}
+use mathlib.Core.Bool.{Bool, true, false, cond, _&&_, _||_}
 use mathlib.Core.List.{List, [], _∷_, _++_}
 use lib.Dec.{eqb}
 use lib.ListN.{length, take, drop}
@@ -13,7 +13,7 @@ use Rattle.fields.specs.Walk.{walkOf}
 use Rattle.fields.specs.declared.Cursor.{Cursor}
 use Rattle.fields.specs.declared.Walked.the-variants.{Took}
 use Rattle.body.specs.Division.{joined}
-use Rattle.body.specs.Sections.{runs, firstData}
+use Rattle.body.specs.Sections.{isEnd, runs, firstData}
 use Rattle.body.specs.WellFormed.{WellFormed}
 use Rattle.body.specs.Decision.{fieldsOf, wellFormed, headerIn, recordsIn}
 use Rattle.body.specs.declared.Sought.{Sought}
@@ -36,8 +36,21 @@ firstWith a b n p (r ∷ rs) = cond (has a b r) (At n p) (firstWith a b (n + 1) 
 abbrev pub soughtIn : ℕ → ℕ → List (List Stored) → Sought
 soughtIn a b us = firstWith a b 0 (length (joined (headerIn us)) + 16) (recordsIn us)
 
+-- the matching UUID: a field of type k and data d that is in a record, where r, and not in the header
+abbrev pub isMatch : ℕ → ℕ → Bool → ℕ → List ℕ → Bool
+isMatch a b r k d = r && (eqb k 0x01 && isUuid d a b)
+
+-- the fields from the first to the deciding one, it included: the matching UUID, or, where there is none, the last, which in a well-formed body is the last END
+unfoldable pub visitedIn : ℕ → ℕ → Bool → List Stored → List Stored
+visitedIn a b r [] = []
+visitedIn a b r (f ∷ fs) = f ∷ cond (isMatch a b r (f .kind) (f .content)) [] (visitedIn a b (r || isEnd f) fs)
+
 unfoldable pub findOf : List ℕ → ℕ → ℕ → Found
-findOf s a b = record { sought = cond (wellFormed s) (soughtIn a b (runs (fieldsOf s))) NotWellFormed }
+findOf s a b =
+    record {
+      sought = cond (wellFormed s) (soughtIn a b (runs (fieldsOf s))) NotWellFormed;
+      visited = cond (wellFormed s) (length (visitedIn a b false (fieldsOf s))) 0;
+    }
 
 -- the number of an answer, 0 where nothing is refused, and its values
 abbrev pub findNumber : Sought → ℕ

@@ -4,4 +4,5 @@ pub mod WellFormed
 pub mod Decision
 pub mod RecordAt
 pub mod Find
+pub mod Search
 pub mod Tally

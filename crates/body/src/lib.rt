@@ -1,16 +1,15 @@
 // The well-formed body: judging it, and finding a record in it. Both go by the one walk.
 use fields::Stepped;
-use fields::Value;
 
 pub mod records;
+mod search;
 mod tally;
 
 ghost use mathlib.Core.Path.{_≡_};
 ghost use mathlib.Core.Bool.{true};
 ghost use Rattle.words.specs.Numbers.{Bytes};
-ghost use Rattle.body.specs.Sections.{runs};
 ghost use Rattle.body.specs.Decision.{fieldsOf, versionFirst, wellFormed, judgedOf};
-ghost use Rattle.body.specs.Find.{isUuid, soughtIn, findOf};
+ghost use Rattle.body.specs.Find.{findOf};
 ghost use Rattle.body.specs.Tally.{sectionsOf};
 
 // How many header fields and records a body has, or that it is not well formed.
@@ -26,9 +25,10 @@ pub enum Sought {
     NotWellFormed,
 }
 
-// A struct, so that a count can join it.
+// What was found, and how many fields were visited.
 pub struct Found {
     pub sought: Sought,
+    pub visited: usize,
 }
 
 // The first field is Version, of 2 bytes, and the second of them is 03.
@@ -94,48 +94,15 @@ pub fn well_formed(body: &[u8]) -> bool
     true
 }
 
-// Whether these are the 16 bytes of the UUID of these halves.
-fn is_uuid(d: &[u8], low: u64, high: u64) -> bool
-    ensures { λ r. ⌜ r ≡ isUuid (now (d .entry)) low high ⌝ }
-{
-    let Value::Uuid(x, y) = fields::value::value_of(true, 0x01, d) else {
-        return false;
-    };
-    if x == low {
-        return y == high;
-    }
-    false
-}
-
-fn seek(body: &[u8], low: u64, high: u64) -> Sought
-    requires { ⌜ wellFormed (now body) ≡ true ⌝ }
-    ensures { λ r. ⌜ r ≡ soughtIn low high (runs (fieldsOf (now (body .entry)))) ⌝ }
-{
-    let header = records::record_at(body, 0);
-    let mut at = header.next;
-    let mut number: usize = 0;
-    while at < body.len() {
-        let r = records::record_at(body, at);
-        let firsts = r.firsts;
-        let uuid = firsts.uuid;
-        if is_uuid(records::content(body, uuid), low, high) {
-            return Sought::At(number, at);
-        }
-        number += 1;
-        at = r.next;
-    }
-    Sought::Nowhere
-}
-
 // The first record with the UUID of these halves.
 pub fn find(body: &[u8], low: u64, high: u64) -> Found
     ensures { λ r. ⌜ (r ≡ findOf (now (body .entry)) low high) × Bytes (now (body .entry)) ⌝ }
 {
     if well_formed(body) {
-        let sought = seek(body, low, high);
-        return Found { sought: sought };
+        return search::seek(body, low, high);
     }
     Found {
         sought: Sought::NotWellFormed,
+        visited: 0,
     }
 }

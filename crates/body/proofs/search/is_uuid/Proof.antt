@@ -1,12 +1,12 @@
--- `body::is_uuid` meets its contract: 16 bytes are a UUID's value, and no other data are.
+-- `body::search::is_uuid` meets its contract: 16 bytes are a UUID's value, and no other data are.
 use mathlib.Core.Path.{sym, ap, _∙_}
 use mathlib.Core.Bool.{Bool, _&&_}
 use lib.Dec.{eqb}
 use borrow.Author.Tests.{eq-eqb, ne-eqb}
-use Rattle.body.proofs.Hunt.{uuid-took, uuid-else}
+use Rattle.body.proofs.UuidValue.{uuid-took, uuid-else}
 use borrow.Author.Needs.{needs}
-use Rattle.body.proofs.is_uuid.Statement.{statement}
-use Rattle.body.proofs.is_uuid.Tie as tie
+use Rattle.body.proofs.search.is_uuid.Statement.{statement}
+use Rattle.body.proofs.search.is_uuid.Tie as tie
 
 returns : tie.Need-returns
 returns c =

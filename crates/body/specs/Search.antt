@@ -1,0 +1,32 @@
+-- How the code searches: field by field, with the number and the place of the record that it is in and the number of fields visited. Nothing here is to be believed: no contract of a public function mentions it.
+use Prim.Native.Nat.{ℕ, _+_}
+use mathlib.Core.Bool.{Bool, cond, _||_}
+use mathlib.Core.List.{List, [], _∷_}
+use lib.Dec.{eqb}
+use lib.ListN.{length}
+use Rattle.fields.specs.Stored.{Stored, roomOf}
+use Rattle.body.specs.Sections.{isEnd}
+use Rattle.body.specs.Find.{isMatch}
+use Rattle.body.specs.declared.Sought.the-variants.{At, Nowhere}
+use Rattle.body.specs.declared.Found.{Found}
+use Rattle.body.specs.declared.search.Search.{Search}
+
+-- before record 0, or at its start
+abbrev pub first : ℕ → ℕ → Search
+first p v = record { number = 0; start = p; visited = v }
+
+-- one field more, of type k, which does not decide; q: the place of the next one
+abbrev pub visitOf : Search → Bool → ℕ → ℕ → Search
+visitOf x r k q =
+    record {
+      number = cond (eqb k 0xff) (cond r (x .number + 1) 0) (x .number);
+      start = cond (eqb k 0xff) q (x .start);
+      visited = x .visited + 1;
+    }
+
+-- from the first of the fields on, which stands at place q
+unfoldable pub searched : ℕ → ℕ → Search → Bool → ℕ → List Stored → Found
+searched a b x r q [] = record { sought = Nowhere; visited = x .visited }
+searched a b x r q (f ∷ fs) =
+    cond (isMatch a b r (f .kind) (f .content)) (record { sought = At (x .number) (x .start); visited = x .visited + 1 })
+    (searched a b (visitOf x r (f .kind) (q + roomOf (length (f .content)))) (r || isEnd f) (q + roomOf (length (f .content))) fs)

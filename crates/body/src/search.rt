@@ -1,0 +1,108 @@
+// The search for a record with a UUID: field by field, from the body's start to the field that decides.
+use super::Found;
+use super::Sought;
+use fields::Stepped;
+use fields::Value;
+ghost use mathlib.Core.Path.{_≡_};
+ghost use mathlib.Core.Bool.{false};
+ghost use Prim.Native.Nat.{_<_, _≤_};
+ghost use Rattle.body.specs.Decision.{takenFrom};
+ghost use Rattle.body.specs.Find.{isUuid, isMatch};
+ghost use Rattle.body.specs.Search.{first, visitOf, searched};
+
+// The number of the record that the search is in, the place of its first field, and how many fields were visited.
+pub struct Search {
+    pub number: usize,
+    pub start: usize,
+    pub visited: usize,
+}
+
+// Before record 0, or at its start.
+fn begin(start: usize, visited: usize) -> Search
+    ensures { λ r. ⌜ r ≡ first start visited ⌝ }
+{
+    Search {
+        number: 0,
+        start: start,
+        visited: visited,
+    }
+}
+
+// Whether these are the 16 bytes of the UUID of these halves.
+fn is_uuid(d: &[u8], low: u64, high: u64) -> bool
+    ensures { λ r. ⌜ r ≡ isUuid (now (d .entry)) low high ⌝ }
+{
+    let Value::Uuid(x, y) = fields::value::value_of(true, 0x01, d) else {
+        return false;
+    };
+    if x == low {
+        return y == high;
+    }
+    false
+}
+
+// Whether a field with these data is the UUID of these halves, and in a record.
+fn is_match(in_record: bool, kind: u8, d: &[u8], low: u64, high: u64) -> bool
+    ensures { λ r. ⌜ r ≡ isMatch low high «in_record» kind (now (d .entry)) ⌝ }
+{
+    if in_record {
+        if kind == 0x01 {
+            return is_uuid(d, low, high);
+        }
+        return false;
+    }
+    false
+}
+
+// One field more, which does not decide; the next one starts at this place.
+fn visit(before: Search, in_record: bool, kind: u8, next: usize) -> Search
+    requires { ⌜ (before .number ≤ before .visited) × (before .visited < 18446744073709551615) ⌝ }
+    ensures { λ r. ⌜ r ≡ visitOf before «in_record» kind next ⌝ }
+{
+    if kind != 0xff {
+        return Search {
+            number: before.number,
+            start: before.start,
+            visited: before.visited + 1,
+        };
+    }
+    let visited = before.visited + 1;
+    if in_record {
+        return Search {
+            number: before.number + 1,
+            start: next,
+            visited: visited,
+        };
+    }
+    begin(next, visited)
+}
+
+// The first record with the UUID of these halves, among the fields that the walk takes.
+pub fn seek(body: &[u8], low: u64, high: u64) -> Found
+    ensures { λ r. ⌜ r ≡ searched low high (first 0 0) false 0 (takenFrom (now (body .entry)) 0) ⌝ }
+{
+    let mut c = fields::start();
+    let mut x = begin(0, 0);
+    while c.place < body.len() {
+        let Stepped::Took(kind, len, next) = fields::step(body, c) else {
+            return Found {
+                sought: Sought::Nowhere,
+                visited: x.visited,
+            };
+        };
+        let start = c.place + 5;
+        let end = start + len;
+        if is_match(c.in_record, kind, &body[start..end], low, high) {
+            return Found {
+                sought: Sought::At(x.number, x.start),
+                visited: x.visited + 1,
+            };
+        }
+        x = visit(x, c.in_record, kind, next.place);
+        c = next;
+    }
+    Found {
+        sought: Sought::Nowhere,
+        visited: x.visited,
+    }
+}
