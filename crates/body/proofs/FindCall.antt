@@ -1,20 +1,16 @@
--- What the answer of a call of `find` says of the 16 bytes that are sought: the search over the records stops at the first that has them, by recursion on the records; two halves
--- say 16 bytes; and where the sections before a record are passed, the walk stands at its first field.
+-- What the answer of a call of `find` says of the 16 bytes that are sought: the search over the records stops at the first that has them, by recursion on the records; and where the
+-- sections before a record are passed, the walk stands at its first field.
 use Prim.Native.Nat.{ℕ, _+_}
-use mathlib.Core.Path.{_≡_, refl, sym, ap, ap₂, subst, _∙_}
-use mathlib.Core.Bool.{Bool, true, false, cond, false≢true, true≢false}
+use mathlib.Core.Path.{_≡_, refl, sym, ap, subst, _∙_}
+use mathlib.Core.Bool.{Bool, true, false, cond, false≢true}
 use mathlib.Core.List.{List, [], _∷_, _++_}
 use native.Mathlib.Nat.{add-zero, zero-add}
 use native.Mathlib.Omega.{arith}
 use lib.Dec.{eqb}
-use lib.ListN.{length, take, drop, length-take, length-drop, take-append-drop}
-use lib.Seq.{take-all}
-use borrow.Author.Tests.{eqb-true, eq-eqb}
+use lib.ListN.{length, take, drop}
 use Rattle.words.specs.Each.{Each}
-use Rattle.words.proofs.EachLaws.{both, each-middle, each-front}
-use Rattle.words.specs.Numbers.{numberLow, bytesLow, Bytes, none, Sized}
-use Rattle.words.proofs.ByteLaws.{bytes-take, bytes-drop}
-use Rattle.words.proofs.NumberLaws.{bytes-number}
+use Rattle.words.proofs.EachLaws.{each-middle, each-front}
+use Rattle.words.specs.Numbers.{numberLow, Bytes, none, Sized}
 use Rattle.fields.specs.Stored.{Stored}
 use Rattle.fields.specs.Value.{valueOf}
 use Rattle.fields.specs.Walk.{walkOf, fieldAt, after, kindAt, dataAt}
@@ -25,47 +21,14 @@ use Rattle.body.specs.Sections.{isEnd, push, runs, count, firstData}
 use Rattle.body.specs.WellFormed.{GoodRecord, WellFormed}
 use Rattle.body.specs.Decision.{takenFrom, wellFormed}
 use Rattle.body.specs.RecordAt.{beforeEnd}
-use Rattle.body.specs.Find.{isUuid, has, firstWith, findOf, placeBehind, HasUuid, FoundAt, Says}
+use Rattle.body.specs.Find.{has, firstWith, findOf, placeBehind, HasUuid, FoundAt, Says}
 use Rattle.body.specs.declared.Sought.{Sought}
 use Rattle.body.specs.declared.Sought.the-variants.{At, Nowhere, NotWellFormed}
 use Rattle.body.specs.declared.Found.{Found}
 use Rattle.body.proofs.Decided.{well-formed, decides, header-is, records-are}
 use Rattle.body.proofs.Answers.{find-is}
+use Rattle.body.proofs.Halves.{has-bytes, has-not}
 use Rattle.body.proofs.Sectioned.{inside, Next, taken-next, Left, left-start, left-turn}
-
--- ---- two halves say 16 bytes
-module _ (d u : List ℕ) (x : Bytes d) (y : Bytes u) where
-  number-inj : length d ≡ length u → numberLow d ≡ numberLow u → d ≡ u
-  number-inj l e = sym (bytes-number x) ∙ ap₂ bytesLow l e ∙ bytes-number y
-
-halves-inj : (d u : List ℕ) → Bytes d → Sized 16 u → length d ≡ 16 → numberLow (take 8 d) ≡ numberLow (take 8 u) → numberLow (take 8 (drop 8 d)) ≡ numberLow (take 8 (drop 8 u)) → d ≡ u
-halves-inj d u x y l e f =
-    let z = y .long in
-    let i : take 8 d ≡ take 8 u = number-inj (take 8 d) (take 8 u) (bytes-take 8 x) (bytes-take 8 (y .bytes)) (simp length-take (omega arith)) e in
-    let j : take 8 (drop 8 d) ≡ take 8 (drop 8 u) = number-inj (take 8 (drop 8 d)) (take 8 (drop 8 u)) (bytes-take 8 (bytes-drop 8 x)) (bytes-take 8 (bytes-drop 8 (y .bytes))) (simp (length-take, length-drop) (omega arith)) f in
-    let a : take 8 (drop 8 d) ≡ drop 8 d = take-all 8 (drop 8 d) (omega (arith, length-drop 8 d)) in
-    let b : take 8 (drop 8 u) ≡ drop 8 u = take-all 8 (drop 8 u) (omega (arith, length-drop 8 u)) in
-    sym (take-append-drop 8 d) ∙ ap₂ _++_ i (sym a ∙ j ∙ b) ∙ take-append-drop 8 u
-
-module _ (uuid : List ℕ) (y : Sized 16 uuid) where
-  abbrev low : ℕ
-  low = numberLow (take 8 uuid)
-
-  abbrev high : ℕ
-  high = numberLow (take 8 (drop 8 uuid))
-
-  has-bytes : (d : List ℕ) → Bytes d → isUuid d low high ≡ true → d ≡ uuid
-  unfolding isUuid
-  has-bytes d x h =
-      let a = both (eqb (length d) 16) _ h in
-      let b = both (eqb (numberLow (take 8 d)) low) _ (a .1) in
-      halves-inj d uuid x y (eqb-true _ _ (a .0)) (eqb-true _ _ (b .0)) (eqb-true _ _ (b .1))
-
-  has-not : (d : List ℕ) → isUuid d low high ≡ false → d ≡ uuid → ⊥
-  unfolding isUuid
-  has-not d h e =
-      let z : isUuid uuid low high ≡ true = rw (eq-eqb (length uuid) 16 (y .long), eq-eqb low low refl, eq-eqb high high refl) in
-      true≢false (sym z ∙ ap (λ (c : List ℕ). isUuid c low high) (sym e) ∙ h)
 
 -- ---- the search
 -- the first of the records rs that has the UUID of halves a and b

@@ -14,6 +14,9 @@ mod UuidValue
 mod Hunt
 mod Searched
 pub mod Answers
+mod Halves
 pub mod FindCall
+mod Deciding
+pub mod FindCount
 pub mod Kept
 pub mod Cases

@@ -134,18 +134,18 @@ module _ (s : List ℕ) where
 -- ---- the sections that are left
 -- a field before the first run, or an END
 module _ (g : Stored) (fs : List Stored) (v : List Stored) (vs : List (List Stored)) (e : runs (g ∷ fs) ≡ v ∷ vs) where
-  run-end : isEnd g ≡ true → (v ≡ []) × (runs fs ≡ vs)
+  pub run-end : isEnd g ≡ true → (v ≡ []) × (runs fs ≡ vs)
   unfolding runs
   run-end k = let z : [] ∷ runs fs ≡ v ∷ vs = rw k at e in (cc, cc)
 
-  run-field : isEnd g ≡ false → (w : List Stored) × (v ≡ g ∷ w) × (runs fs ≡ w ∷ vs)
+  pub run-field : isEnd g ≡ false → (w : List Stored) × (v ≡ g ∷ w) × (runs fs ≡ w ∷ vs)
   unfolding runs
   run-field k =
       let r = some-run fs in
       let z : (g ∷ r .0) ∷ r .1 ≡ v ∷ vs = rw (k, r .2) at e in
       (r .0, cc, r .2 ∙ (let y : r .1 ≡ vs = cc in ap (_∷_ (r .0)) y))
 
-run-none : (v : List Stored) (us : List (List Stored)) → runs [] ≡ v ∷ (us ++ ([] ∷ [])) → ⊥
+pub run-none : (v : List Stored) (us : List (List Stored)) → runs [] ≡ v ∷ (us ++ ([] ∷ [])) → ⊥
 unfolding runs
 run-none v us e = omega (arith, ap length e, length-append us ([] ∷ []))
 

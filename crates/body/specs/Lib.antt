@@ -5,4 +5,5 @@ pub mod Decision
 pub mod RecordAt
 pub mod Find
 pub mod Search
+pub mod Visited
 pub mod Tally

@@ -1,0 +1,49 @@
+-- Two halves say 16 bytes: a number of 8 bytes has these bytes alone, and data that pass the test of the halves are the UUID.
+use Prim.Native.Nat.{ℕ}
+use mathlib.Core.Path.{_≡_, refl, sym, ap, ap₂, _∙_}
+use mathlib.Core.Bool.{true, false, true≢false}
+use mathlib.Core.List.{List, _++_}
+use native.Mathlib.Omega.{arith}
+use lib.Dec.{eqb}
+use lib.ListN.{length, take, drop, length-take, length-drop, take-append-drop}
+use lib.Seq.{take-all}
+use borrow.Author.Tests.{eqb-true, eq-eqb}
+use Rattle.words.specs.Numbers.{numberLow, bytesLow, Bytes, Sized}
+use Rattle.words.proofs.EachLaws.{both}
+use Rattle.words.proofs.ByteLaws.{bytes-take, bytes-drop}
+use Rattle.words.proofs.NumberLaws.{bytes-number}
+use Rattle.body.specs.Find.{isUuid}
+
+module _ (d u : List ℕ) (x : Bytes d) (y : Bytes u) where
+  number-inj : length d ≡ length u → numberLow d ≡ numberLow u → d ≡ u
+  number-inj l e = sym (bytes-number x) ∙ ap₂ bytesLow l e ∙ bytes-number y
+
+halves-inj : (d u : List ℕ) → Bytes d → Sized 16 u → length d ≡ 16 → numberLow (take 8 d) ≡ numberLow (take 8 u) → numberLow (take 8 (drop 8 d)) ≡ numberLow (take 8 (drop 8 u)) → d ≡ u
+halves-inj d u x y l e f =
+    let z = y .long in
+    let i : take 8 d ≡ take 8 u = number-inj (take 8 d) (take 8 u) (bytes-take 8 x) (bytes-take 8 (y .bytes)) (simp length-take (omega arith)) e in
+    let j : take 8 (drop 8 d) ≡ take 8 (drop 8 u) = number-inj (take 8 (drop 8 d)) (take 8 (drop 8 u)) (bytes-take 8 (bytes-drop 8 x)) (bytes-take 8 (bytes-drop 8 (y .bytes))) (simp (length-take, length-drop) (omega arith)) f in
+    let a : take 8 (drop 8 d) ≡ drop 8 d = take-all 8 (drop 8 d) (omega (arith, length-drop 8 d)) in
+    let b : take 8 (drop 8 u) ≡ drop 8 u = take-all 8 (drop 8 u) (omega (arith, length-drop 8 u)) in
+    sym (take-append-drop 8 d) ∙ ap₂ _++_ i (sym a ∙ j ∙ b) ∙ take-append-drop 8 u
+
+module _ (uuid : List ℕ) (y : Sized 16 uuid) where
+  abbrev low : ℕ
+  low = numberLow (take 8 uuid)
+
+  abbrev high : ℕ
+  high = numberLow (take 8 (drop 8 uuid))
+
+  pub has-bytes : (d : List ℕ) → Bytes d → isUuid d low high ≡ true → d ≡ uuid
+  unfolding isUuid
+  has-bytes d x h =
+      let a = both (eqb (length d) 16) _ h in
+      let b = both (eqb (numberLow (take 8 d)) low) _ (a .1) in
+      halves-inj d uuid x y (eqb-true _ _ (a .0)) (eqb-true _ _ (b .0)) (eqb-true _ _ (b .1))
+
+  pub has-itself : (d : List ℕ) → d ≡ uuid → isUuid d low high ≡ true
+  unfolding isUuid
+  has-itself d e = rw (e, eq-eqb (length uuid) 16 (y .long), eq-eqb low low refl, eq-eqb high high refl)
+
+  pub has-not : (d : List ℕ) → isUuid d low high ≡ false → d ≡ uuid → ⊥
+  has-not d h e = true≢false (sym (has-itself d e) ∙ h)
