@@ -4,8 +4,13 @@ mod common;
 
 use common::process::*;
 use std::fs;
+use std::os::unix::process::CommandExt;
 use std::path::Path;
 use std::process::Stdio;
+
+extern "C" {
+    fn close(fd: i32) -> i32;
+}
 
 /// Those of the safe's two records, and of none.
 const FIRST: &str = "0123456789abcdef30313233343536ff";
@@ -76,7 +81,8 @@ fn help() {
     assert!(ended.out.contains("\n  --verbose               with find: says on standard error"));
 }
 
-/// Where standard error can't be written to, the run ends as it would, with all its output.
+/// Where standard error can't be written to, or is closed, the run ends as it would, with all its
+/// output.
 #[test]
 fn errors_that_go_nowhere() {
     let folder = Folder::new("verbose-nowhere");
@@ -92,7 +98,15 @@ fn errors_that_go_nowhere() {
         drop(reader);
         for errors in [Stdio::from(full), writer.into()] {
             let output = command.stderr(errors).output().unwrap();
-            assert_eq!((output.status.code(), output.stdout), (Some(status), quiet.stdout.clone()));
+            assert_eq!((output.status.code(), &output.stdout), (Some(status), &quiet.stdout));
         }
+        unsafe {
+            command.pre_exec(|| {
+                close(2);
+                Ok(())
+            })
+        };
+        let output = command.output().unwrap();
+        assert_eq!((output.status.code(), output.stdout), (Some(status), quiet.stdout));
     }
 }
