@@ -20,7 +20,7 @@ struct slice {
     void side##_mac(uint8_t out[32], const uint8_t l[32], const struct slice *body);               \
     uint32_t side##_talc_judge(const uint8_t *body, size_t n, uint8_t answer[16]);                 \
     uint32_t side##_talc_find(const uint8_t *body, size_t n, const uint8_t uuid[16],               \
-                              uint8_t answer[24]);                                                 \
+                              uint8_t answer[32]);                                                 \
     uint32_t side##_talc_read(const uint8_t *file, size_t n, const uint8_t *p, size_t p_len,       \
                               uint32_t ceiling, uint8_t *space, size_t room, uint8_t out[96]);     \
     uint32_t side##_talc_write(const uint8_t *p, size_t p_len, const uint8_t salt[32],             \
@@ -57,8 +57,10 @@ struct slice {
     static void side##_finds(uint8_t out[32])                                                      \
     {                                                                                              \
         static const uint8_t absent[16] = {0xff, 0xff, 0xff, 0xff, 0xff, 0xff, 0xff, 0xff};        \
-        if (side##_talc_find(body, body_len, absent, out) != 0 || out[0] != 0)                     \
+        uint8_t answer[32];                                                                        \
+        if (side##_talc_find(body, body_len, absent, answer) != 0 || answer[0] != 0)               \
             stop("a UUID was found that is not there");                                            \
+        memcpy(out, answer, 24); /* an older library has no count behind this */                   \
     }                                                                                              \
     static void side##_reads(uint8_t out[32])                                                      \
     {                                                                                              \

@@ -80,6 +80,14 @@
 extern "C" {
 #endif
 
+/*
+ * Version of this header and of the archive that it belongs to. It goes up
+ * when an answer grows or changes its meaning; 1 had no such macro, and
+ * talc_find()'s answer had 24 bytes. Compile a program with the header that
+ * came with its archive: a call sets all bytes of an answer of its own version.
+ */
+#define TALC_VERSION 2
+
 /* Refusals, and the calls that give them. */
 #define TALC_OK            0  /* not refused */
 #define TALC_LENGTH        1  /* read, write: the file or body has a length that no safe has */
@@ -140,7 +148,7 @@ extern "C" {
 #define TALC_READ_ANSWER      96
 #define TALC_WALK_ANSWER      72
 #define TALC_JUDGE_ANSWER     16
-#define TALC_FIND_ANSWER      24
+#define TALC_FIND_ANSWER      32
 #define TALC_REPLAY_ANSWER     8
 #define TALC_STANDING_ANSWER  40
 #define TALC_EXPORT_ANSWER    24
@@ -322,16 +330,24 @@ uint32_t talc_judge(const uint8_t *body, size_t body_len,
                     uint8_t answer[TALC_JUDGE_ANSWER]);
 
 /*
- * Finds the first record whose UUID is these 16 bytes, as they are stored.
+ * Finds the first record whose UUID is these 16 bytes, as they are stored, and
+ * counts the fields that it visits.
  *
  * Refusal: 9, when the body is not well formed.
  *
- * The answer, three numbers by offset:
+ * The answer, four numbers by offset:
  *    0  1 if there is one, else 0
  *    8  number of the record, from 0
  *   16  place of the record's first field (walk on with in_record = true)
+ *   24  number of fields visited: those from the body's start to the one that
+ *       decides, it included, header and ENDs counted. The UUID of the record
+ *       decides, or the last END where there is none.
  *
- * None, or refused: the answer is zero. Nothing else is written.
+ * The number at 24 is at most body_len / 16. The test that the body is well
+ * formed is not counted.
+ *
+ * None: the numbers at 0, 8 and 16 are 0; the one at 24 is that of all fields
+ * of the body. Refused: the answer is zero. Nothing else is written.
  */
 uint32_t talc_find(const uint8_t *body, size_t body_len,
                    const uint8_t uuid[16],

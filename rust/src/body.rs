@@ -21,6 +21,17 @@ pub struct Found {
     pub place: usize,
 }
 
+/// What a search came to.
+#[derive(Clone, Copy, Debug, PartialEq, Eq)]
+pub struct Search {
+    /// The record, or none.
+    pub found: Option<Found>,
+    /// Fields from the body's start to the one that decided, it included: the record's UUID, or
+    /// the last END. The header's fields and ENDs count, the test that the body is well formed
+    /// does not. At most a sixteenth of the body's length.
+    pub visited: u64,
+}
+
 /// The counts of a well-formed body; [`Refusal::Body`] for any other.
 ///
 /// ```
@@ -38,17 +49,21 @@ pub fn judge(body: &[u8]) -> Result<Counts, Refusal> {
     Ok(Counts { header_fields, records })
 }
 
-/// The first record whose UUID is these 16 bytes, as they are stored, or none.
+/// The first record whose UUID is these 16 bytes, as they are stored, or none; and how many fields
+/// were visited.
 ///
 /// ```
+/// use talcfeather::{find, Search};
+///
 /// let body = *b"\x02\0\0\0\0\x0e\x03.........\0\0\0\0\xff...........";
-/// assert_eq!(talcfeather::find(&body, &[7; 16]), Ok(None));
+/// assert_eq!(find(&body, &[7; 16]), Ok(Search { found: None, visited: 2 }));
 /// ```
-pub fn find(body: &[u8], uuid: &[u8; 16]) -> Result<Option<Found>, Refusal> {
-    let mut answer = [0u8; 24];
+pub fn find(body: &[u8], uuid: &[u8; 16]) -> Result<Search, Refusal> {
+    let mut answer = [0u8; 32];
     // Sound: the slices are lent for the call, and the answer has the size that the call sets.
     let number = unsafe { raw::talc_find(body.as_ptr(), body.len(), uuid, &mut answer) };
     Refusal::outcome(number)?;
-    let [found, record, place] = numbers(&answer);
-    Ok((found != 0).then_some(Found { record, place: place as usize }))
+    let [found, record, place, visited] = numbers(&answer);
+    let found = (found != 0).then_some(Found { record, place: place as usize });
+    Ok(Search { found, visited })
 }

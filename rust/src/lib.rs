@@ -50,7 +50,7 @@ mod replay;
 mod safe;
 mod table;
 
-pub use body::{find, judge, Counts, Found};
+pub use body::{find, judge, Counts, Found, Search};
 pub use fields::{append, fill_needed, walk, Cursor, Field, Value, END};
 pub use refusal::Refusal;
 pub use replay::{replay, standing, trace_record, Kind, Standing};

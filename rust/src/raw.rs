@@ -61,7 +61,7 @@ extern "C" {
         body: *const u8,
         body_len: usize,
         uuid: *const [u8; 16],
-        answer: *mut [u8; 24],
+        answer: *mut [u8; 32],
     ) -> u32;
 
     /// Takes a whole trace into a state.

@@ -1,14 +1,25 @@
-//! Export, import and row in memory between pages that can't be touched: nothing is read beyond what
-//! is lent, and nothing is written to what is lent for reading.
+//! Find, export, import and row in memory between pages that can't be touched: nothing is read
+//! beyond what is lent, and nothing is written to what is lent for reading.
 
 mod common;
 
-use common::bodies::damage;
+use common::bodies::{any, damage};
 use common::calls::*;
 use common::fenced::Fenced;
 use common::tables::*;
 use peer::random::Random;
 use talcfeather::raw;
+
+fn find(body: &[u8], uuid: &[u8; 16], before: bool) -> Outcome {
+    let body = Fenced::shown(body, before);
+    let uuid = Fenced::shown(uuid, before);
+    let answer = Fenced::new(&[0xEE; 32], before);
+    let number = unsafe {
+        let (uuid, answer) = (uuid.pointer().cast(), answer.pointer().cast());
+        raw::talc_find(body.pointer(), body.len(), uuid, answer)
+    };
+    Outcome { number, answer: answer.content(), memory: Vec::new() }
+}
 
 fn export(body: &[u8], now: u32, output: &[u8], before: bool) -> Outcome {
     let body = Fenced::shown(body, before);
@@ -34,6 +45,18 @@ fn row(table: &[u8], number: usize, before: bool) -> Outcome {
     let number =
         unsafe { raw::talc_row(table.pointer(), table.len(), number, answer.pointer().cast()) };
     Outcome { number, answer: answer.content(), memory: Vec::new() }
+}
+
+#[test]
+fn records() {
+    let (random, mut met) = (&mut Random(3), Met::default());
+    while met.cases() < 2000 {
+        let body = any(random);
+        for before in [true, false] {
+            met.same(find(&body, &[7; 16], before), find_theirs(&body, &[7; 16]), body.len());
+        }
+    }
+    met.each_of(&[0, 9], 300);
 }
 
 #[test]

@@ -46,6 +46,24 @@ static void make_row(void)
     row[TALC_ROW_DAYS] = 0xfe;
 }
 
+static void print_found(const uint8_t uuid[16])
+{
+    uint8_t answer[TALC_FIND_ANSWER];
+    printf(" %u", (unsigned)talc_find(body, sizeof body, uuid, answer));
+    for (int i = 0; i < 4; i++)
+        printf(" %u", (unsigned)talc_number(answer + 8 * i));
+}
+
+/* The record of the body above, and none. */
+static void finds(void)
+{
+    static const uint8_t none[16] = {0};
+    printf("%d %d", TALC_VERSION, TALC_FIND_ANSWER);
+    print_found(body + 37);
+    print_found(none);
+    printf(" ");
+}
+
 /* The calls of the login table: answers of zeros, then with something in them. */
 static void tables(void)
 {
@@ -97,6 +115,7 @@ int main(void)
         printf(" %u", (unsigned)talc_number(standing + 8 * i));
     printf(" %u", (unsigned)talc_replay(state, sizeof state, mixed, sizeof mixed, replay));
     printf(" %u ", (unsigned)talc_number(replay));
+    finds();
     tables();
     return left != 0 || talc_number(read) != 0;
 }

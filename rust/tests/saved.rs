@@ -7,7 +7,9 @@ use common::calls::{import_ours, import_theirs, row_ours, row_theirs, Export, Re
 use common::tables::NOW;
 use peer::random::Random;
 use peer::saved::{files, hex, unhex, Listing, Saved};
-use talcfeather::{find, read_counted, row, walk, write, Cursor, Opened, Parts, Value, END};
+use talcfeather::{
+    find, read_counted, row, walk, write, Cursor, Opened, Parts, Search, Value, END,
+};
 
 /// The listing by the library's own walk: group, title, user, notes, password, URL.
 fn listing(body: &[u8]) -> Listing {
@@ -30,17 +32,34 @@ fn listing(body: &[u8]) -> Listing {
     records
 }
 
+/// The fields up to a record's UUID, or all, by the library's own walk.
+fn walked(body: &[u8], uuid: &[u8; 16]) -> u64 {
+    let (mut at, mut fields) = (Cursor::START, 0);
+    while let Some((field, next)) = walk(body, at).expect("a field") {
+        fields += 1;
+        if at.in_record && field.kind == 0x01 && field.data(body) == uuid {
+            break;
+        }
+        at = next;
+    }
+    fields
+}
+
 fn finds_each_record(opened: &Opened, listing: &Listing) {
     let mut numbers = Vec::new();
     for uuid in listing.keys() {
         let uuid = unhex(uuid).try_into().unwrap();
-        let found = find(opened.body, &uuid).unwrap().expect("the record");
-        let theirs = peer::body::find(opened.body, &uuid).unwrap().unwrap();
+        let search = find(opened.body, &uuid).unwrap();
+        let theirs = peer::body::find(opened.body, &uuid).unwrap();
+        assert_eq!([walked(opened.body, &uuid), theirs.visited], [search.visited; 2]);
+        let (found, theirs) = (search.found.expect("the record"), theirs.found.unwrap());
         assert_eq!((found.record, found.place), (theirs.record, theirs.place));
         numbers.push(found.record);
     }
     numbers.sort();
     assert_eq!(numbers, (0..opened.records).collect::<Vec<_>>());
+    let none = Search { found: None, visited: walked(opened.body, &[0; 16]) };
+    assert_eq!(find(opened.body, &[0; 16]), Ok(none));
 }
 
 fn check(saved: &Saved) {

@@ -85,9 +85,9 @@ fn write_uses(body: &[u8], output: &mut [u8], number: u32) {
     let (salt, k, l, iv, mut answered) = ([1; 32], [2; 32], [3; 32], [4; 16], 0);
     let used = used_by(&mut || {
         let (start, length) = (output.as_mut_ptr(), output.len());
-        let (text, size) = (body.as_ptr(), body.len());
+        let (text, size, pass) = (body.as_ptr(), body.len(), b"pass".as_ptr());
         answered = unsafe {
-            raw::talc_write(b"pass".as_ptr(), 4, &salt, 2048, &k, &l, &iv, text, size, start, length)
+            raw::talc_write(pass, 4, &salt, 2048, &k, &l, &iv, text, size, start, length)
         };
     });
     assert_eq!(answered, number);

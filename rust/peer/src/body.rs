@@ -14,6 +14,12 @@ pub struct Found {
     pub place: usize,
 }
 
+#[derive(Clone, Copy, Debug, PartialEq, Eq)]
+pub struct Search {
+    pub found: Option<Found>,
+    pub visited: u64,
+}
+
 /// Header and records without their ENDs; none if the last field is no END.
 fn parts(fields: &[Field]) -> Option<Vec<&[Field]>> {
     let (last, rest) = fields.split_last()?;
@@ -61,11 +67,21 @@ pub fn covered(body: &[u8]) -> Vec<u8> {
     fields.iter().flat_map(|f| f.data(body)).copied().collect()
 }
 
-/// The first record with that UUID.
-pub fn find(body: &[u8], uuid: &[u8; 16]) -> Result<Option<Found>, u32> {
+/// The number of fields from the body's start to the deciding field, it included: the matching UUID
+/// of a record, or the last END.
+fn visited(fields: &[Field], sought: Value) -> usize {
+    let mut behind_header = fields.iter().enumerate().skip_while(|(_, f)| f.kind != END);
+    let matching = behind_header.find(|(_, f)| f.value == sought).map(|(at, _)| at);
+    let last_end = fields.iter().rposition(|f| f.kind == END);
+    matching.or(last_end).map_or(0, |at| at + 1)
+}
+
+/// The first record with that UUID, and the fields visited.
+pub fn find(body: &[u8], uuid: &[u8; 16]) -> Result<Search, u32> {
     let (_, records) = well_formed(body)?;
     let half = |i: usize| u64::from_le_bytes(uuid[i..i + 8].try_into().unwrap());
     let sought = Value::Uuid(half(0), half(8));
     let number = records.iter().position(|r| r.iter().any(|f| f.value == sought));
-    Ok(number.map(|n| Found { record: n as u64, place: records[n][0].place }))
+    let found = number.map(|n| Found { record: n as u64, place: records[n][0].place });
+    Ok(Search { found, visited: visited(&all(body)?, sought) as u64 })
 }

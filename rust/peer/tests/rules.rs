@@ -1,6 +1,6 @@
 //! The rules' own cases, and the files saved by other programs.
 
-use peer::body::judge;
+use peer::body::{find, judge};
 use peer::fields::{append, size, walk, Cursor, Value};
 use peer::replay::{Accepted, Standing};
 use peer::safe::{read, write};
@@ -150,6 +150,20 @@ fn one_login(fields: &[Part]) -> Vec<u8> {
         peer::fields::stored(*kind, data, &vec![0; peer::fields::fill_needed(data.len())])
     };
     [&before, fields, &after].concat().iter().flat_map(stored).collect()
+}
+
+/// To the UUID, or to the last END; the header's own UUID decides nothing.
+#[test]
+fn fields_visited() {
+    let visited = |body: &[u8], uuid: u8| find(body, &[uuid; 16]).unwrap().visited;
+    assert_eq!(visited(&smallest(), 7), 2);
+    let body = one_login(&[(0x03, b"Lathe"), (0x02, &[b'n'; 100])]);
+    assert_eq!([visited(&body, 7), visited(&body, 8)], [3, 7]);
+    let header = [&body[..16], &body[32..64], &body[16..]].concat();
+    assert_eq!([visited(&header, 7), visited(&header, 8)], [4, 8]);
+    let two = [&body[..], &body[64..body.len() - 16], &body[32..64], &body[16..32]].concat();
+    assert_eq!([visited(&two, 7), visited(&two, 8)], [3, 12]);
+    assert_eq!(find(&body[..body.len() - 16], &[7; 16]), Err(9));
 }
 
 /// By the request's own words: 86,400 d <= expiry - now < 86,400 (d + 1).

@@ -73,7 +73,7 @@ fn header(random: &mut Random) -> Vec<Part> {
     parts
 }
 
-fn record(random: &mut Random) -> Vec<Part> {
+pub fn record(random: &mut Random) -> Vec<Part> {
     let uuid = if random.one_in(2) { [7; 16] } else { random.array() };
     let mut parts = vec![
         part(0x01, &uuid),

@@ -234,7 +234,7 @@ pub fn judge_theirs(body: &[u8]) -> Outcome {
 pub fn find_ours(body: &[u8], uuid: &[u8; 16], random: &mut Random) -> Outcome {
     let body = Guarded::new(random, body);
     let uuid = Guarded::new(random, uuid);
-    let mut answer = Guarded::junk(random, 24);
+    let mut answer = Guarded::junk(random, 32);
     let number = unsafe {
         let (uuid, answer) = (uuid.pointer().cast(), answer.pointer_mut().cast());
         raw::talc_find(body.pointer(), body.len(), uuid, answer)
@@ -245,12 +245,12 @@ pub fn find_ours(body: &[u8], uuid: &[u8; 16], random: &mut Random) -> Outcome {
 }
 
 pub fn find_theirs(body: &[u8], uuid: &[u8; 16]) -> Outcome {
-    let found = peer::body::find(body, uuid);
-    let number = found.err().unwrap_or(0);
-    let numbers = match found {
-        Ok(Some(found)) => [1, found.record, found.place as u64],
-        _ => [0, 0, 0],
-    };
+    let search = peer::body::find(body, uuid);
+    let number = search.err().unwrap_or(0);
+    let numbers = search.map_or([0; 4], |search| match search.found {
+        Some(found) => [1, found.record, found.place as u64, search.visited],
+        None => [0, 0, 0, search.visited],
+    });
     Outcome { number, answer: bytes_of(&numbers), memory: Vec::new() }
 }
 

@@ -46,6 +46,8 @@ shown.
   --state STATE           with list: the state file to take standings from
   --now SECONDS           with table: counts days from this time, in seconds
                           since 1970-01-01 UTC, and not from the clock's
+  --verbose               with find: says on standard error how many fields were
+                          looked at, ENDs counted
   --ceiling N             refuses files that stretch the passphrase more than N
                           times; 16777216 if not given, which takes some seconds
   --help, --version
@@ -89,6 +91,7 @@ pub struct Arguments {
     pub ceiling: u32,
     pub state: Option<PathBuf>,
     pub now: Option<u32>,
+    pub verbose: bool,
 }
 
 /// 32 hex digits, as stored, with or without hyphens.
@@ -126,6 +129,7 @@ struct Sorted {
     ceiling: Option<OsString>,
     state: Option<OsString>,
     now: Option<OsString>,
+    verbose: bool,
     help: bool,
     version: bool,
 }
@@ -157,6 +161,7 @@ impl Sorted {
                 b"--ceiling" => sorted.ceiling = Some(value()?),
                 b"--state" => sorted.state = Some(value()?),
                 b"--now" => sorted.now = Some(value()?),
+                b"--verbose" => sorted.verbose = true,
                 b"--help" | b"-h" => sorted.help = true,
                 b"--version" => sorted.version = true,
                 b"--" => sorted.words.extend(arguments.by_ref()),
@@ -194,6 +199,9 @@ impl Sorted {
             }
             command if self.now.is_some() && !matches!(command, Command::Table(_)) => {
                 "--now goes with table alone"
+            }
+            command if self.verbose && !matches!(command, Command::Find(_)) => {
+                "--verbose goes with find alone"
             }
             _ => return Ok(()),
         };
@@ -242,6 +250,7 @@ impl Arguments {
             source: sorted.source()?,
             ceiling: number("--ceiling", &sorted.ceiling)?.unwrap_or(CEILING),
             now: number("--now", &sorted.now)?,
+            verbose: sorted.verbose,
             state: sorted.state.map(PathBuf::from),
         })
     }

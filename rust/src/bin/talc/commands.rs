@@ -8,8 +8,18 @@ use std::fmt::Write;
 use std::path::Path;
 use talcfeather::{Cursor, Field, Opened, Parts, Refusal, Work, AROUND, END, FILE_MAX};
 
-/// What there is to say, and how the run ends after it is said.
-pub type Said = (String, Result<(), Trouble>);
+/// What there is to say, a line for standard error behind it, and how the run ends after both.
+pub struct Said {
+    pub output: String,
+    pub note: Option<String>,
+    pub ending: Result<(), Trouble>,
+}
+
+impl From<String> for Said {
+    fn from(output: String) -> Said {
+        Said { output, note: None, ending: Ok(()) }
+    }
+}
 
 pub fn run(arguments: &Arguments) -> Result<Said, Trouble> {
     let output = match &arguments.command {
@@ -19,15 +29,15 @@ pub fn run(arguments: &Arguments) -> Result<Said, Trouble> {
         Command::Rows => table::rows(&arguments.file)?,
         Command::Table(out) => {
             table::may_write(out)?;
-            open(arguments)?
+            return open(arguments);
         }
-        _ => open(arguments)?,
+        _ => return open(arguments),
     };
-    Ok((output, Ok(())))
+    Ok(output.into())
 }
 
 /// The commands that open a safe.
-fn open(arguments: &Arguments) -> Result<String, Trouble> {
+fn open(arguments: &Arguments) -> Result<Said, Trouble> {
     let path = &arguments.file;
     // One byte over the limit is enough for the refusal of longer files.
     let file = files::read(path, FILE_MAX + 1)?;
@@ -41,16 +51,15 @@ fn open(arguments: &Arguments) -> Result<String, Trouble> {
         talcfeather::read_counted(&file, &passphrase.0, arguments.ceiling, &mut workspace.0)
     });
     let opened = outcome.map_err(refused)?;
-    match &arguments.command {
-        Command::Check => Ok(check(path, &opened, work)),
-        Command::List => list::lines(opened.body, state.as_deref()).map_err(refused),
-        Command::Find(uuid) => {
-            find(opened.body, uuid).map_err(refused)?.ok_or_else(|| Trouble::no_record(path))
-        }
-        Command::Table(out) => table::export(path, &opened, arguments.now, out),
-        Command::Resave(out) => resave(&file, &passphrase.0, &opened, out),
-        _ => fields(opened.body).map_err(refused),
-    }
+    let output = match &arguments.command {
+        Command::Check => check(path, &opened, work),
+        Command::List => list::lines(opened.body, state.as_deref()).map_err(refused)?,
+        Command::Find(uuid) => return find(arguments, opened.body, uuid).map_err(refused),
+        Command::Table(out) => table::export(path, &opened, arguments.now, out)?,
+        Command::Resave(out) => resave(&file, &passphrase.0, &opened, out)?,
+        _ => fields(opened.body).map_err(refused)?,
+    };
+    Ok(output.into())
 }
 
 /// Refuses a file that no passphrase opens. Under a ceiling of 0 nothing is stretched: what is not
@@ -124,17 +133,21 @@ fn fields(body: &[u8]) -> Result<String, Refusal> {
     Ok(out)
 }
 
-fn find(body: &[u8], uuid: &[u8; 16]) -> Result<Option<String>, Refusal> {
-    let Some(found) = talcfeather::find(body, uuid)? else {
-        return Ok(None);
+fn find(arguments: &Arguments, body: &[u8], uuid: &[u8; 16]) -> Result<Said, Refusal> {
+    let path = &arguments.file;
+    let search = talcfeather::find(body, uuid)?;
+    let looked_at = || format!("{}: fields looked at: {}", path.display(), search.visited);
+    let note = arguments.verbose.then(looked_at);
+    let Some(found) = search.found else {
+        return Ok(Said { output: String::new(), note, ending: Err(Trouble::no_record(path)) });
     };
-    let mut out = format!("record {}\n", found.record);
+    let mut output = format!("record {}\n", found.record);
     let at = Cursor { place: found.place, in_record: true };
     each_field(body, at, |_, field| {
-        out += &field_line(&field, true, body);
+        output += &field_line(&field, true, body);
         field.kind != END
     })?;
-    Ok(Some(out))
+    Ok(Said { output, note, ending: Ok(()) })
 }
 
 fn resave(file: &[u8], passphrase: &[u8], opened: &Opened, out: &Path) -> Result<String, Trouble> {

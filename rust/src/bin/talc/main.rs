@@ -16,25 +16,34 @@ mod table;
 mod trouble;
 
 use arguments::Arguments;
+use std::fmt::Display;
 use std::io::{ErrorKind, Write};
 use trouble::Trouble;
 
 fn run() -> Result<(), Trouble> {
     let arguments = Arguments::read(std::env::args_os().skip(1))?;
-    let (output, ending) = commands::run(&arguments)?;
+    let said = commands::run(&arguments)?;
     let mut out = std::io::stdout().lock();
     // Not println!, which panics when nobody reads. A reader that has seen enough is no trouble.
-    match out.write_all(output.as_bytes()).and_then(|()| out.flush()) {
-        Err(error) if error.kind() != ErrorKind::BrokenPipe => Err(Trouble::output(error)),
-        _ => ending,
+    match out.write_all(said.output.as_bytes()).and_then(|()| out.flush()) {
+        Err(error) if error.kind() != ErrorKind::BrokenPipe => return Err(Trouble::output(error)),
+        _ => {}
     }
+    if let Some(note) = said.note {
+        tell(note);
+    }
+    said.ending
+}
+
+/// A line on standard error. If that can't be written to, the status still tells.
+fn tell(line: impl Display) {
+    let _ = writeln!(std::io::stderr(), "talc: {line}");
 }
 
 fn main() -> std::process::ExitCode {
     let Err(trouble) = run() else {
         return 0.into();
     };
-    // If standard error can't be written to, the status still tells.
-    let _ = writeln!(std::io::stderr(), "talc: {trouble}");
+    tell(&trouble);
     trouble.status().into()
 }

@@ -53,7 +53,7 @@ pub fn run(path: &Path, traces: &[PathBuf]) -> Result<Said, Trouble> {
     }
     out += &format!("{}: {done}\n", path.display());
     let ending = if refused == 0 { Ok(()) } else { Err(Trouble::Traces(refused, traces.len())) };
-    Ok((out, ending))
+    Ok(Said { output: out, note: None, ending })
 }
 
 /// What an accepted trace came to: its records, and a line for each login that it cancelled or
