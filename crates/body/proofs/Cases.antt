@@ -15,11 +15,12 @@ use Rattle.body.specs.Division.{Whole, joined}
 use Rattle.body.specs.Sections.{runs, firstData}
 use Rattle.body.specs.WellFormed.{WellFormed}
 use Rattle.body.specs.Decision.{divided, walkable, goodHeader, goodRecord, goodRuns, wellFormed, coveredOf, judgedOf}
-use Rattle.body.specs.Find.{isUuid, firstWith, findOf}
+use Rattle.body.specs.Find.{isUuid, firstWith, visitedIn, findOf}
 use Rattle.body.specs.declared.Judged.{Judged}
 use Rattle.body.specs.declared.Judged.the-variants.{Counts, NotWellFormed}
 use Rattle.body.specs.declared.Sought.{Sought}
 use Rattle.body.specs.declared.Sought.the-variants as Sought
+use Rattle.body.specs.declared.Found.{Found}
 use Rattle.body.proofs.Decided.{decides}
 
 -- ==== Version and END alone, with some fill: the description, written out
@@ -137,17 +138,25 @@ others =
     ∷ joined (version ∷ end ∷ uuid 0x01 ∷ title ∷ field 0x06 [] ∷ end ∷ [])
     ∷ []
 
--- three records: UUIDs 01, 02 and 02 again; what is found of 02, of 01, and of 03, which only the header has
+-- three records: UUIDs 01, 02 and 02 again; the header has 03, which no record has
 abbrev three : List ℕ
 three =
     joined (version ∷ uuid 0x03 ∷ end ∷ title ∷ uuid 0x01 ∷ password ∷ end ∷ uuid 0x02 ∷ title ∷ password ∷ end ∷ uuid 0x02 ∷ title ∷ password ∷ end ∷ [])
 
-abbrev pub finds : List (Sought × Sought)
+abbrev found : Sought → ℕ → Found
+found x v = record { sought = x; visited = v }
+
+-- what is found, and how many fields are visited: up to the UUID, which is the first, a middle or the last field of its record; up to the last END; and none of a body that is not well formed, be the UUID before
+-- its fault
+abbrev pub finds : List (Found × Found)
 finds =
-    (findOf three 0x02 0 .sought, Sought.At 1 144)
-    ∷ (findOf three 0x01 0 .sought, Sought.At 0 64)
-    ∷ (findOf three 0x03 0 .sought, Sought.Nowhere)
-    ∷ (findOf (least ++ least) 0x01 0 .sought, Sought.NotWellFormed)
+    (findOf three 0x02 0, found (Sought.At 1 144) 8)
+    ∷ (findOf three 0x01 0, found (Sought.At 0 64) 5)
+    ∷ (findOf three 0x03 0, found Sought.Nowhere 15)
+    ∷ (findOf (joined (version ∷ end ∷ title ∷ password ∷ uuid 0x01 ∷ end ∷ [])) 0x01 0, found (Sought.At 0 32) 5)
+    ∷ (findOf least 0x01 0, found Sought.Nowhere 2)
+    ∷ (findOf (least ++ least) 0x01 0, found Sought.NotWellFormed 0)
+    ∷ (findOf (joined (version ∷ end ∷ uuid 0x01 ∷ title ∷ password ∷ end ∷ end ∷ [])) 0x01 0, found Sought.NotWellFormed 0)
     ∷ []
 
 -- the data bytes of all fields in order
@@ -161,7 +170,7 @@ pub cases : (map (λ c. judgedOf (c .0)) bodies ≡ map (λ c. c .1) bodies)
     × (map judgedOf others ≡ map (λ s. NotWellFormed) others)
     × (map (λ c. c .0) finds ≡ map (λ c. c .1) finds)
     × (map (λ c. c .0) covers ≡ map (λ c. c .1) covers)
-unfolding numberLow bytesLow runs firstData divided walkable goodHeader goodRecord goodRuns wellFormed judgedOf isUuid firstWith findOf
+unfolding numberLow bytesLow runs firstData divided walkable goodHeader goodRecord goodRuns wellFormed judgedOf isUuid firstWith visitedIn findOf
 cases = (refl, refl, refl, refl)
 
 none-are : (ss : List (List ℕ)) → map wellFormed ss ≡ map (λ s. false) ss → Each (λ s. WellFormed s → ⊥) ss

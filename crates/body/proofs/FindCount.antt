@@ -163,7 +163,7 @@ module _ (s uuid : List ℕ) (r : Found) (y : Sized 16 uuid) (c : (r ≡ findOf 
     nowhere-up e =
         let i = t .nowhere e in
         let l : runs (t .before ++ (t .deciding ∷ [])) ≡ (w .header ∷ w .records) ++ ([] ∷ []) =
-            ap (λ (v : List Stored). runs (t .before ++ (t .deciding ∷ v))) (sym i) ∙ ap runs (sym (t .parts)) ∙ w .sections in
+        ap (λ (v : List Stored). runs (t .before ++ (t .deciding ∷ v))) (sym i) ∙ ap runs (sym (t .parts)) ∙ w .sections in
         let m : LastEnd (t .deciding) (t .behind) = (eqb-true _ _ (last-end (t .before) (t .deciding) (w .header ∷ w .records) l), i) in
         up _ m (inr m)
 

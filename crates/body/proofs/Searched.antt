@@ -142,7 +142,7 @@ module _ (a b : ℕ) where
         let next : behindEnd p fs ≡ q = t .next in
         let few : count 0x01 (beforeEnd fs) ≤ 1 = rw (t .here) (omega (arith, g .0 .uuid .once)) in
         let rest : searched a b (at (n + 1) (behindEnd p fs)) true (behindEnd p fs) (afterEnd fs) .sought ≡ firstWith a b (n + 1) q us =
-            rw (← taken-behind s p fs refl, next) (records (n + 1) q us (rw (← next) (t .left)) (g .1)) in
+        rw (← taken-behind s p fs refl, next) (records (n + 1) q us (rw (← next) (t .left)) (g .1)) in
         section n p p fs few ∙ ap₂ (λ (v : List Stored) (y : Sought). cond (has a b v) (At n p) y) (t .here) rest
 
     -- the whole body

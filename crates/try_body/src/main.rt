@@ -288,11 +288,13 @@ fn sought(body: &[u8], second: u8) {
             number(n);
             say(b" at ");
             number(p);
-            say(b"\n");
         }
-        Sought::Nowhere => say(b"none\n"),
-        Sought::NotWellFormed => say(b"9\n"),
+        Sought::Nowhere => say(b"none"),
+        Sought::NotWellFormed => say(b"9"),
     }
+    say(b", fields visited: ");
+    number(f.visited);
+    say(b"\n");
 }
 
 // Searches the first n bytes.
