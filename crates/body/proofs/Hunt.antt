@@ -1,4 +1,4 @@
--- Where the loop of the search stands: with the fields that are left, it comes to what the search comes to over all that the walk takes.
+-- Where the loop of the search stands: with the fields that are left, it comes to what the search comes to from where it began.
 use Prim.Native.Nat.{ℕ, _+_, _-_, _≤_, _<_}
 use mathlib.Core.Path.{_≡_, refl, sym, ap, ap₂, _∙_}
 use mathlib.Core.Bool.{Bool, true, false, cond, _||_}
@@ -10,7 +10,7 @@ use lib.ListN.{length, take, drop}
 use types.Run.{OneOf}
 use denote.Enum.Declared.{tagOf}
 use Rattle.fields.specs.Stored.{Stored, roomOf}
-use Rattle.fields.specs.Walk.{walkOf, lenAt, dataAt, start}
+use Rattle.fields.specs.Walk.{walkOf}
 use Rattle.fields.specs.declared.Cursor.{Cursor}
 use Rattle.fields.specs.declared.Field.{Field}
 use Rattle.fields.specs.declared.Walked.{Walked}
@@ -20,25 +20,21 @@ use Rattle.fields.proofs.Outcomes.{taken, forward}
 use Rattle.body.specs.Sections.{isEnd}
 use Rattle.body.specs.Decision.{storedAt, takenFrom}
 use Rattle.body.specs.Find.{isMatch}
-use Rattle.body.specs.Search.{first, visitOf, searched}
+use Rattle.body.specs.Search.{visitOf, searched, searchedOn}
 use Rattle.body.specs.declared.Sought.the-variants.{At, Nowhere}
 use Rattle.body.specs.declared.Found.{Found}
 use Rattle.body.specs.declared.search.Search.{Search}
 use Rattle.body.proofs.Division.{data-long}
 use Rattle.body.proofs.Along.{taken-kind, taken-fits, next-place, fold-took, fold-else, fold-stop}
 
--- what the search comes to
-abbrev all : List ℕ → ℕ → ℕ → Found
-all s a b = searched a b (first 0 0) false 0 (takenFrom s 0)
-
--- The cursor c, and what is kept of the fields before it: each takes a block at least, and each record one field at least.
-pub record Hunts (s : List ℕ) (a b : ℕ) (c : Cursor) (x : Search) : Type 0 where
+-- The cursor c, and what is kept so far: each field takes a block at least, and each record a field at least. All of it comes to y.
+pub record Hunts (s : List ℕ) (a b : ℕ) (y : Found) (c : Cursor) (x : Search) : Type 0 where
   pub few : x .number ≤ x .visited
   pub small : x .visited ≤ c .place
-  rest : searched a b x (c .«in_record») (c .place) (takenFrom s (c .place)) ≡ all s a b
+  rest : searchedOn a b x c s ≡ y
 
-pub hunts-start : (s : List ℕ) (a b : ℕ) → Hunts s a b start (first 0 0)
-hunts-start s a b = record { few = omega arith; small = omega arith; rest = refl }
+pub hunts-start : (s : List ℕ) (a b : ℕ) (c : Cursor) (x : Search) → (x .number ≤ x .visited) × (x .visited ≤ c .place) → Hunts s a b (searchedOn a b x c s) c x
+hunts-start s a b c x h = record { few = h .0; small = h .1; rest = refl }
 
 -- an END brings one record more at the most
 visit-number : (x : Search) (r : Bool) (k q : ℕ) → visitOf x r k q .number ≤ x .number + 1
@@ -49,12 +45,12 @@ visit-number x r k q = by (eqb k 0xff) r
     by true false = omega arith
     by false o = omega arith
 
-module _ (s : List ℕ) (a b : ℕ) (c : Cursor) (x : Search) (t : Hunts s a b c x) where
-  pub hunts-stop : length s ≤ c .place → record { sought = Nowhere; visited = x .visited } ≡ all s a b
+module _ (s : List ℕ) (a b : ℕ) (y : Found) (c : Cursor) (x : Search) (t : Hunts s a b y c x) where
+  pub hunts-stop : length s ≤ c .place → record { sought = Nowhere; visited = x .visited } ≡ y
   unfolding searched
   hunts-stop h = fold-stop (searched a b x (c .«in_record») (c .place)) _ s c (t .rest) h
 
-  pub hunts-else : (w : Walked) → w ≡ walkOf s c → OneOf (1 ∷ 2 ∷ 3 ∷ []) (tagOf walked.the-type w) → record { sought = Nowhere; visited = x .visited } ≡ all s a b
+  pub hunts-else : (w : Walked) → w ≡ walkOf s c → OneOf (1 ∷ 2 ∷ 3 ∷ []) (tagOf walked.the-type w) → record { sought = Nowhere; visited = x .visited } ≡ y
   unfolding searched
   hunts-else w q o = fold-else (searched a b x (c .«in_record») (c .place)) _ s c (t .rest) w q o
 
@@ -67,10 +63,10 @@ module _ (s : List ℕ) (a b : ℕ) (c : Cursor) (x : Search) (t : Hunts s a b c
 
     -- the data as the loop cuts them out
     cut : take (c .place + 5 + f .len - (c .place + 5)) (drop (c .place + 5) s) ≡ g .content
-    cut = ap (λ (n : ℕ). take n (drop (c .place + 5) s)) (add-sub-cancel-left (c .place + 5) (f .len) ∙ ap (λ (y : Field). y .len) (taken s c f d e .field))
+    cut = ap (λ (n : ℕ). take n (drop (c .place + 5) s)) (add-sub-cancel-left (c .place + 5) (f .len) ∙ ap (λ (z : Field). z .len) (taken s c f d e .field))
 
     next : cond (isMatch a b (c .«in_record») (g .kind) (g .content)) (record { sought = At (x .number) (x .start); visited = x .visited + 1 })
-        (searched a b (visitOf x (c .«in_record») (g .kind) (c .place + roomOf (length (g .content)))) (c .«in_record» || isEnd g) (c .place + roomOf (length (g .content))) (takenFrom s (d .place))) ≡ all s a b
+        (searched a b (visitOf x (c .«in_record») (g .kind) (c .place + roomOf (length (g .content)))) (c .«in_record» || isEnd g) (c .place + roomOf (length (g .content))) (takenFrom s (d .place))) ≡ y
     unfolding searched
     next = fold-took (searched a b x (c .«in_record») (c .place)) _ s c (t .rest) f d e
 
@@ -79,23 +75,23 @@ module _ (s : List ℕ) (a b : ℕ) (c : Cursor) (x : Search) (t : Hunts s a b c
 
     module _ (m : Bool) (k : m ≡ isMatch a b (c .«in_record») (f .kind) (take (c .place + 5 + f .len - (c .place + 5)) (drop (c .place + 5) s))) where
       tested : isMatch a b (c .«in_record») (g .kind) (g .content) ≡ m
-      tested = sym (k ∙ ap₂ (λ (i : ℕ) (y : List ℕ). isMatch a b (c .«in_record») i y) (taken-kind s c f d e) cut)
+      tested = sym (k ∙ ap₂ (λ (i : ℕ) (l : List ℕ). isMatch a b (c .«in_record») i l) (taken-kind s c f d e) cut)
 
-      pub hunts-found : m ≡ true → record { sought = At (x .number) (x .start); visited = x .visited + 1 } ≡ all s a b
+      pub hunts-found : m ≡ true → record { sought = At (x .number) (x .start); visited = x .visited + 1 } ≡ y
       hunts-found h = rw (tested ∙ h) at next
 
-      pub hunts-next : m ≡ false → (x′ : Search) → x′ ≡ visitOf x (c .«in_record») (f .kind) (d .place) → Hunts s a b d x′
+      pub hunts-next : m ≡ false → (x′ : Search) → x′ ≡ visitOf x (c .«in_record») (f .kind) (d .place) → Hunts s a b y d x′
       hunts-next h x′ i =
           let w = forward s c f d e in
           let r = c .«in_record» in
-          let z : searched a b (visitOf x r (g .kind) (c .place + roomOf (length (g .content)))) (r || isEnd g) (c .place + roomOf (length (g .content))) (takenFrom s (d .place)) ≡ all s a b = rw (tested ∙ h) at next in
+          let z : searched a b (visitOf x r (g .kind) (c .place + roomOf (length (g .content)))) (r || isEnd g) (c .place + roomOf (length (g .content))) (takenFrom s (d .place)) ≡ y = rw (tested ∙ h) at next in
           let j : x′ ≡ visitOf x r (g .kind) (c .place + roomOf (length (g .content))) = i ∙ ap₂ (λ (n p : ℕ). visitOf x r n p) (taken-kind s c f d e) (sym far) in
-          let v : x′ .visited ≡ x .visited + 1 = ap (λ (y : Search). y .visited) i in
+          let v : x′ .visited ≡ x .visited + 1 = ap (λ (z : Search). z .visited) i in
           let n : x′ .number ≤ x .number + 1 = rw i (visit-number x r (f .kind) (d .place)) in
-          let l : d .«in_record» ≡ r || isEnd g = ap (λ (y : Cursor). y .«in_record») (taken s c f d e .next) in
+          let l : d .«in_record» ≡ r || isEnd g = ap (λ (z : Cursor). z .«in_record») (taken s c f d e .next) in
           record {
             few = omega (arith, t .few);
             small = omega (arith, t .small, w .0);
-            rest = ap (λ (y : Search). searched a b y (d .«in_record») (d .place) (takenFrom s (d .place))) j
+            rest = ap (λ (u : Search). searched a b u (d .«in_record») (d .place) (takenFrom s (d .place))) j
                 ∙ ap₂ (λ (o : Bool) (p : ℕ). searched a b (visitOf x r (g .kind) (c .place + roomOf (length (g .content)))) o p (takenFrom s (d .place))) l (sym far) ∙ z;
           }

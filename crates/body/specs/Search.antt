@@ -5,7 +5,9 @@ use mathlib.Core.List.{List, [], _∷_}
 use lib.Dec.{eqb}
 use lib.ListN.{length}
 use Rattle.fields.specs.Stored.{Stored, roomOf}
+use Rattle.fields.specs.declared.Cursor.{Cursor}
 use Rattle.body.specs.Sections.{isEnd}
+use Rattle.body.specs.Decision.{takenFrom}
 use Rattle.body.specs.Find.{isMatch}
 use Rattle.body.specs.declared.Sought.the-variants.{At, Nowhere}
 use Rattle.body.specs.declared.Found.{Found}
@@ -30,3 +32,7 @@ searched a b x r q [] = record { sought = Nowhere; visited = x .visited }
 searched a b x r q (f ∷ fs) =
     cond (isMatch a b r (f .kind) (f .content)) (record { sought = At (x .number) (x .start); visited = x .visited + 1 })
     (searched a b (visitOf x r (f .kind) (q + roomOf (length (f .content)))) (r || isEnd f) (q + roomOf (length (f .content))) fs)
+
+-- over the fields that the walk takes, on from a cursor
+abbrev pub searchedOn : ℕ → ℕ → Search → Cursor → List ℕ → Found
+searchedOn a b x c s = searched a b x (c .«in_record») (c .place) (takenFrom s (c .place))

@@ -1,14 +1,14 @@
 // The search for a record with a UUID: field by field, from the body's start to the field that decides.
 use super::Found;
 use super::Sought;
+use fields::Cursor;
 use fields::Stepped;
 use fields::Value;
 ghost use mathlib.Core.Path.{_≡_};
-ghost use mathlib.Core.Bool.{false};
 ghost use Prim.Native.Nat.{_<_, _≤_};
-ghost use Rattle.body.specs.Decision.{takenFrom};
+ghost use Rattle.fields.specs.Walk.{start as startOf};
 ghost use Rattle.body.specs.Find.{isUuid, isMatch};
-ghost use Rattle.body.specs.Search.{first, visitOf, searched};
+ghost use Rattle.body.specs.Search.{first, visitOf, searchedOn};
 
 // The number of the record that the search is in, the place of its first field, and how many fields were visited.
 pub struct Search {
@@ -77,12 +77,13 @@ fn visit(before: Search, in_record: bool, kind: u8, next: usize) -> Search
     begin(next, visited)
 }
 
-// The first record with the UUID of these halves, among the fields that the walk takes.
-pub fn seek(body: &[u8], low: u64, high: u64) -> Found
-    ensures { λ r. ⌜ r ≡ searched low high (first 0 0) false 0 (takenFrom (now (body .entry)) 0) ⌝ }
+// The search on from a cursor: to the count that it is handed it adds one for each field.
+fn seek_on(body: &[u8], from: Cursor, so_far: Search, low: u64, high: u64) -> Found
+    requires { ⌜ («so_far» .number ≤ «so_far» .visited) × («so_far» .visited ≤ from .place) ⌝ }
+    ensures { λ r. ⌜ r ≡ searchedOn low high «so_far» from (now (body .entry)) ⌝ }
 {
-    let mut c = fields::start();
-    let mut x = begin(0, 0);
+    let mut c = from;
+    let mut x = so_far;
     while c.place < body.len() {
         let Stepped::Took(kind, len, next) = fields::step(body, c) else {
             return Found {
@@ -105,4 +106,11 @@ pub fn seek(body: &[u8], low: u64, high: u64) -> Found
         sought: Sought::Nowhere,
         visited: x.visited,
     }
+}
+
+// The first record with the UUID of these halves, among the fields that the walk takes.
+pub fn seek(body: &[u8], low: u64, high: u64) -> Found
+    ensures { λ r. ⌜ r ≡ searchedOn low high (first 0 0) startOf (now (body .entry)) ⌝ }
+{
+    seek_on(body, fields::start(), begin(0, 0), low, high)
 }
