@@ -1,11 +1,10 @@
 -- The field that decides a search, of any fields: the search by fields ends at the first match, or at the last field where there is none, and has counted the fields up to it; by recursion on the fields.
 use Prim.Native.Nat.{ℕ, _+_}
 use mathlib.Core.Path.{_≡_, refl, sym, ap, _∙_}
-use mathlib.Core.Bool.{Bool, true, false, cond, _&&_, _||_, or-false, false≢true}
+use mathlib.Core.Bool.{Bool, true, false, cond, _||_, or-false, false≢true}
 use mathlib.Core.Logic.{_⊎_, inl, inr}
 use mathlib.Core.List.{List, [], _∷_, _++_}
 use native.Mathlib.Omega.{arith}
-use lib.Dec.{eqb}
 use lib.ListN.{length}
 use Rattle.fields.specs.Stored.{Stored, roomOf}
 use Rattle.body.specs.Sections.{isEnd, count}

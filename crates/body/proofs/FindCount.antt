@@ -2,7 +2,7 @@
 -- By the search by fields (Deciding), in which two halves say 16 bytes.
 use Prim.Native.Nat.{ℕ, _+_, _*_, _/_, _≤_}
 use mathlib.Core.Path.{_≡_, refl, sym, ap, subst, _∙_}
-use mathlib.Core.Bool.{Bool, true, false, cond, _&&_, _||_, false≢true}
+use mathlib.Core.Bool.{Bool, true, false, cond, _||_, false≢true}
 use mathlib.Core.Logic.{_⊎_, inl, inr}
 use mathlib.Core.List.{List, [], _∷_, _++_}
 use native.Mathlib.Omega.{arith}
@@ -12,11 +12,11 @@ use borrow.Author.Tests.{eqb-true, eq-eqb}
 use Rattle.words.specs.Each.{Each}
 use Rattle.words.specs.Numbers.{numberLow, Bytes, Sized}
 use Rattle.words.proofs.EachLaws.{both, and, each-middle, each-front}
-use Rattle.fields.specs.Stored.{Stored, bytesOf, roomOf}
+use Rattle.fields.specs.Stored.{Stored, bytesOf}
 use Rattle.body.specs.Division.{Whole, joined}
 use Rattle.body.specs.Sections.{isEnd, runs, count}
 use Rattle.body.specs.WellFormed.{VersionFirst, WellFormed}
-use Rattle.body.specs.Decision.{fieldsOf, takenFrom, wellFormed}
+use Rattle.body.specs.Decision.{wellFormed}
 use Rattle.body.specs.Find.{isMatch, visitedIn, findOf, findNumber}
 use Rattle.body.specs.Search.{first, searched}
 use Rattle.body.specs.Visited.{Matches, LastEnd, NoMatch, Decides, UpTo, Visited}

@@ -1,6 +1,6 @@
 -- The search by fields comes to what the definitions say: it finds the first record with the UUID, section by section, and it has then visited the fields up to the deciding one, field by field.
 use Prim.Native.Nat.{ℕ, _+_, _≤_}
-use mathlib.Core.Path.{_≡_, refl, sym, ap, ap₂, _∙_}
+use mathlib.Core.Path.{_≡_, refl, ap, ap₂, _∙_}
 use mathlib.Core.Bool.{Bool, true, false, cond, _&&_, _||_}
 use mathlib.Core.List.{List, [], _∷_}
 use native.Mathlib.Nat.{zero-add}
@@ -18,7 +18,7 @@ use Rattle.body.specs.RecordAt.{beforeEnd, behindEnd, recordAt}
 use Rattle.body.specs.Find.{isUuid, has, firstWith, soughtIn, isMatch, visitedIn, findOf}
 use Rattle.body.specs.Search.{first, visitOf, searched}
 use Rattle.body.specs.declared.Sought.{Sought}
-use Rattle.body.specs.declared.Sought.the-variants.{At, Nowhere, NotWellFormed}
+use Rattle.body.specs.declared.Sought.the-variants.{At, NotWellFormed}
 use Rattle.body.specs.declared.Found.{Found}
 use Rattle.body.specs.declared.search.Search.{Search}
 use Rattle.body.proofs.Along.{taken-stop}

@@ -1,7 +1,6 @@
 -- `talcfeather::find::find_numbers` meets its contract, case by case.
-use Prim.Native.Nat.{ℕ}
 use mathlib.Core.Path.{_≡_, sym, ap}
-use mathlib.Core.List.{List, [], _∷_, _++_}
+use mathlib.Core.List.{[], _∷_, _++_}
 use Rattle.body.specs.Find.{findValues}
 use Rattle.body.specs.declared.Found.{Found}
 use Rattle.body.specs.declared.Sought.{Sought}
