@@ -18,7 +18,7 @@ use Rattle.body.specs.Sections.{isEnd, runs, count}
 use Rattle.body.specs.WellFormed.{VersionFirst, WellFormed}
 use Rattle.body.specs.Decision.{wellFormed}
 use Rattle.body.specs.Find.{isMatch, visitedIn, findOf, findNumber}
-use Rattle.body.specs.Search.{first, searched}
+use Rattle.body.specs.Search.{begun, searched}
 use Rattle.body.specs.Visited.{Matches, LastEnd, NoMatch, Decides, UpTo, Visited}
 use Rattle.body.specs.declared.Sought.{Sought}
 use Rattle.body.specs.declared.Sought.the-variants.{At, Nowhere, NotWellFormed}
@@ -124,17 +124,17 @@ module _ (s uuid : List ℕ) (r : Found) (y : Sized 16 uuid) (c : (r ≡ findOf 
         by (inl m) = inl (match-test uuid y before f m)
         by (inr l) = inr (l .1)
 
-    pub search-is : r ≡ searched a b (first 0 0) false 0 (w .fields)
-    search-is = c .0 ∙ sym (found-is a b s (decides s w)) ∙ ap (searched a b (first 0 0) false 0) (taken-all s (decides s w) ∙ fields-are s w)
+    pub search-is : r ≡ searched a b (begun 0 0) false 0 (w .fields)
+    search-is = c .0 ∙ sym (found-is a b s (decides s w)) ∙ ap (searched a b (begun 0 0) false 0) (taken-all s (decides s w) ∙ fields-are s w)
 
-    ends-so : Ends a b (first 0 0) false (w .fields) (r .sought)
+    ends-so : Ends a b (begun 0 0) false (w .fields) (r .sought)
     ends-so = rw (ap (λ (x : Found). x .sought) search-is) (by (w .fields) (w .version))
       where
-        by : (fs : List Stored) → VersionFirst fs → Ends a b (first 0 0) false fs (searched a b (first 0 0) false 0 fs .sought)
+        by : (fs : List Stored) → VersionFirst fs → Ends a b (begun 0 0) false fs (searched a b (begun 0 0) false 0 fs .sought)
         by [] v = absurd v
-        by (f ∷ fs) v = ends a b (first 0 0) false 0 f fs (λ h. refl)
+        by (f ∷ fs) v = ends a b (begun 0 0) false 0 f fs (λ h. refl)
 
-    abbrev t : Ends a b (first 0 0) false (w .fields) (r .sought)
+    abbrev t : Ends a b (begun 0 0) false (w .fields) (r .sought)
     t = ends-so
 
     up : (Is : List Stored → Stored → List Stored → Type 0) → Is (t .before) (t .deciding) (t .behind) → Matches uuid (t .before) (t .deciding) ⊎ LastEnd (t .deciding) (t .behind)
@@ -205,9 +205,9 @@ pub same-answer : (s s′ uuid : List ℕ) (r r′ : Found) → Sized 16 uuid
     → w .fields ≡ before ++ (f ∷ behind) → w′ .fields ≡ before ++ (f ∷ behind′)
     → Decides uuid before f behind → Decides uuid before f behind′ → r ≡ r′
 same-answer s s′ uuid r r′ y c c′ w w′ before f behind behind′ e e′ d d′ =
-    search-is s uuid r y c w ∙ ap (searched a b (first 0 0) false 0) e
+    search-is s uuid r y c w ∙ ap (searched a b (begun 0 0) false 0) e
     ∙ by (d .is) (d′ .is)
-    ∙ sym (search-is s′ uuid r′ y c′ w′ ∙ ap (searched a b (first 0 0) false 0) e′)
+    ∙ sym (search-is s′ uuid r′ y c′ w′ ∙ ap (searched a b (begun 0 0) false 0) e′)
   where
     a : ℕ
     a = numberLow (take 8 uuid)
@@ -216,7 +216,7 @@ same-answer s s′ uuid r r′ y c c′ w w′ before f behind behind′ e e′ 
     b = numberLow (take 8 (drop 8 uuid))
 
     by : Matches uuid before f ⊎ LastEnd f behind → Matches uuid before f ⊎ LastEnd f behind′
-        → searched a b (first 0 0) false 0 (before ++ (f ∷ behind)) ≡ searched a b (first 0 0) false 0 (before ++ (f ∷ behind′))
-    by (inl m) o = same-search a b (first 0 0) false 0 before f behind behind′ (match-test uuid y before f m)
+        → searched a b (begun 0 0) false 0 (before ++ (f ∷ behind)) ≡ searched a b (begun 0 0) false 0 (before ++ (f ∷ behind′))
+    by (inl m) o = same-search a b (begun 0 0) false 0 before f behind behind′ (match-test uuid y before f m)
     by (inr l) (inl m) = absurd (omega (arith, l .0, m .kind))
-    by (inr l) (inr l′) = ap (λ (v : List Stored). searched a b (first 0 0) false 0 (before ++ (f ∷ v))) (l .1 ∙ sym (l′ .1))
+    by (inr l) (inr l′) = ap (λ (v : List Stored). searched a b (begun 0 0) false 0 (before ++ (f ∷ v))) (l .1 ∙ sym (l′ .1))

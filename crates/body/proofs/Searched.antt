@@ -16,7 +16,7 @@ use Rattle.body.specs.WellFormed.{GoodRecord}
 use Rattle.body.specs.Decision.{fieldsOf, takenFrom, wellFormed, headerIn, recordsIn}
 use Rattle.body.specs.RecordAt.{beforeEnd, behindEnd, recordAt}
 use Rattle.body.specs.Find.{isUuid, has, firstWith, soughtIn, isMatch, visitedIn, findOf}
-use Rattle.body.specs.Search.{first, visitOf, searched}
+use Rattle.body.specs.Search.{begun, visitOf, searched}
 use Rattle.body.specs.declared.Sought.{Sought}
 use Rattle.body.specs.declared.Sought.the-variants.{At, NotWellFormed}
 use Rattle.body.specs.declared.Found.{Found}
@@ -150,7 +150,7 @@ module _ (a b : ℕ) where
       abbrev fs : List Stored
       fs = takenFrom s 0
 
-      sought-is : searched a b (first 0 0) false 0 fs .sought ≡ soughtIn a b (runs (fieldsOf s))
+      sought-is : searched a b (begun 0 0) false 0 fs .sought ≡ soughtIn a b (runs (fieldsOf s))
       unfolding recordAt
       sought-is =
           let t = left-turn s 0 _ _ (left-start s w) in
@@ -159,10 +159,10 @@ module _ (a b : ℕ) where
           header 0 0 fs
           ∙ rw (← taken-behind s 0 fs refl, next) (records 0 (length (joined h) + 16) (recordsIn (runs (fieldsOf s))) (rw (← next) (t .left)) (good-start s w))
 
-      visited-is : searched a b (first 0 0) false 0 fs .visited ≡ length (visitedIn a b false (fieldsOf s))
-      visited-is = counted (first 0 0) false 0 fs ∙ zero-add (length (visitedIn a b false fs)) ∙ ap (λ (l : List Stored). length (visitedIn a b false l)) (taken-all s w)
+      visited-is : searched a b (begun 0 0) false 0 fs .visited ≡ length (visitedIn a b false (fieldsOf s))
+      visited-is = counted (begun 0 0) false 0 fs ∙ zero-add (length (visitedIn a b false fs)) ∙ ap (λ (l : List Stored). length (visitedIn a b false l)) (taken-all s w)
 
-      pub found-is : searched a b (first 0 0) false 0 fs ≡ findOf s a b
+      pub found-is : searched a b (begun 0 0) false 0 fs ≡ findOf s a b
       unfolding findOf
       found-is = rw w (ap₂ (λ (x : Sought) (n : ℕ). record { sought = x; visited = n }) sought-is visited-is)
 

@@ -36,11 +36,11 @@ firstWith a b n p (r ∷ rs) = cond (has a b r) (At n p) (firstWith a b (n + 1) 
 abbrev pub soughtIn : ℕ → ℕ → List (List Stored) → Sought
 soughtIn a b us = firstWith a b 0 (length (joined (headerIn us)) + 16) (recordsIn us)
 
--- the matching UUID: a field of type k and data d that is in a record, where r, and not in the header
+-- a field of type k with the data d is the matching UUID; r: it is in a record, and not in the header
 abbrev pub isMatch : ℕ → ℕ → Bool → ℕ → List ℕ → Bool
 isMatch a b r k d = r && (eqb k 0x01 && isUuid d a b)
 
--- the fields from the first to the deciding one, it included: the matching UUID, or, where there is none, the last, which in a well-formed body is the last END
+-- of the fields of a body those up to the deciding one, it included: the matching UUID, or, where there is none, the last of all, which is an END; r: the first is in a record
 unfoldable pub visitedIn : ℕ → ℕ → Bool → List Stored → List Stored
 visitedIn a b r [] = []
 visitedIn a b r (f ∷ fs) = f ∷ cond (isMatch a b r (f .kind) (f .content)) [] (visitedIn a b (r || isEnd f) fs)

@@ -14,8 +14,8 @@ use Rattle.body.specs.declared.Found.{Found}
 use Rattle.body.specs.declared.search.Search.{Search}
 
 -- before record 0, or at its start
-abbrev pub first : ℕ → ℕ → Search
-first p v = record { number = 0; start = p; visited = v }
+abbrev pub begun : ℕ → ℕ → Search
+begun p v = record { number = 0; start = p; visited = v }
 
 -- one field more, of type k, which does not decide; q: the place of the next one
 abbrev pub visitOf : Search → Bool → ℕ → ℕ → Search

@@ -5,10 +5,10 @@ use fields::Cursor;
 use fields::Stepped;
 use fields::Value;
 ghost use mathlib.Core.Path.{_≡_};
-ghost use Prim.Native.Nat.{_<_, _≤_};
+ghost use Prim.Native.Nat.{_+_, _^_, _<_, _≤_};
 ghost use Rattle.fields.specs.Walk.{start as startOf};
 ghost use Rattle.body.specs.Find.{isUuid, isMatch};
-ghost use Rattle.body.specs.Search.{first, visitOf, searchedOn};
+ghost use Rattle.body.specs.Search.{begun, visitOf, searchedOn};
 
 // The number of the record that the search is in, the place of its first field, and how many fields were visited.
 pub struct Search {
@@ -19,7 +19,7 @@ pub struct Search {
 
 // Before record 0, or at its start.
 fn begin(start: usize, visited: usize) -> Search
-    ensures { λ r. ⌜ r ≡ first start visited ⌝ }
+    ensures { λ r. ⌜ r ≡ begun start visited ⌝ }
 {
     Search {
         number: 0,
@@ -41,7 +41,7 @@ fn is_uuid(d: &[u8], low: u64, high: u64) -> bool
     false
 }
 
-// Whether a field with these data is the UUID of these halves, and in a record.
+// Whether a field of this type with these data is the UUID of these halves, and in a record.
 fn is_match(in_record: bool, kind: u8, d: &[u8], low: u64, high: u64) -> bool
     ensures { λ r. ⌜ r ≡ isMatch low high «in_record» kind (now (d .entry)) ⌝ }
 {
@@ -56,7 +56,7 @@ fn is_match(in_record: bool, kind: u8, d: &[u8], low: u64, high: u64) -> bool
 
 // One field more, which does not decide; the next one starts at this place.
 fn visit(before: Search, in_record: bool, kind: u8, next: usize) -> Search
-    requires { ⌜ (before .number ≤ before .visited) × (before .visited < 18446744073709551615) ⌝ }
+    requires { ⌜ (before .number ≤ before .visited) × (before .visited + 1 < 2 ^ 64) ⌝ }
     ensures { λ r. ⌜ r ≡ visitOf before «in_record» kind next ⌝ }
 {
     if kind != 0xff {
@@ -110,7 +110,7 @@ fn seek_on(body: &[u8], from: Cursor, so_far: Search, low: u64, high: u64) -> Fo
 
 // The first record with the UUID of these halves, among the fields that the walk takes.
 pub fn seek(body: &[u8], low: u64, high: u64) -> Found
-    ensures { λ r. ⌜ r ≡ searchedOn low high (first 0 0) startOf (now (body .entry)) ⌝ }
+    ensures { λ r. ⌜ r ≡ searchedOn low high (begun 0 0) startOf (now (body .entry)) ⌝ }
 {
     seek_on(body, fields::start(), begin(0, 0), low, high)
 }
