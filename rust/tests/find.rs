@@ -174,7 +174,7 @@ fn many_ends() {
 #[test]
 fn a_block_a_field() {
     let random = &mut Random(9);
-    for blocks in [2, 3, 16, 255, 256, 257, 65_535, 65_536, 65_537, 262_131, 262_132] {
+    for blocks in [2, 3, 16, 255, 256, 257, 65_535, 65_536, 65_537, 262_131, 300_000] {
         let mut parts = vec![part(0x0c, b"one block.."); blocks as usize];
         parts[0] = version();
         parts[blocks as usize - 1] = end();
