@@ -18,6 +18,7 @@ use Rattle.body.specs.declared.Judged.the-variants as judged
 use Rattle.body.specs.declared.Sought.{Sought}
 use Rattle.body.specs.declared.Sought.the-variants as sought
 use Rattle.body.specs.declared.Found.{Found}
+use Rattle.body.proofs.Searched.{found-not}
 use Rattle.body.proofs.Decided.{well-formed, decides, fields-are, header-is, records-are, counts-are}
 
 by-counts : (b : Bool) (h n h′ n′ : ℕ) → cond b (judged.Counts h n) judged.NotWellFormed ≡ judged.Counts h′ n′ → b ≡ true
@@ -115,5 +116,4 @@ unfolding judgedOf
 judge-not s b n = rw (not-formed s b n)
 
 pub find-not : (s : List ℕ) (u v : ℕ) → Bytes s → (WellFormed s → ⊥) → findOf s u v ≡ record { sought = sought.NotWellFormed; visited = 0 }
-unfolding findOf
-find-not s u v b n = rw (not-formed s b n)
+find-not s u v b n = sym (found-not u v s (not-formed s b n))

@@ -1,7 +1,7 @@
--- The field that decides a search, of any fields: the search by fields ends at the first match, or at the last field where there is none, and has counted the fields up to it; by recursion on the fields.
+-- The field that decides a search, of any fields: the search ends at the first match, or at the last field where there is none, and the fields visited are those up to it; by recursion on the fields.
 use Prim.Native.Nat.{ℕ, _+_}
 use mathlib.Core.Path.{_≡_, refl, sym, ap, _∙_}
-use mathlib.Core.Bool.{Bool, true, false, cond, _||_, or-false, false≢true}
+use mathlib.Core.Bool.{Bool, true, false, cond, _||_, or-false, or-assoc, false≢true}
 use mathlib.Core.Logic.{_⊎_, inl, inr}
 use mathlib.Core.List.{List, [], _∷_, _++_}
 use native.Mathlib.Omega.{arith}
@@ -13,16 +13,12 @@ use Rattle.body.specs.Search.{visitOf, searched}
 use Rattle.body.specs.declared.Sought.{Sought}
 use Rattle.body.specs.declared.Sought.the-variants.{At, Nowhere}
 use Rattle.body.specs.declared.Found.{Found}
-use Rattle.body.specs.declared.search.Search.{Search}
+use Rattle.body.specs.declared.search.Progress.{Progress}
 
 -- one of the fields is an END
 unfoldable pub ended : List Stored → Bool
 ended [] = false
 ended (f ∷ fs) = isEnd f || ended fs
-
-or-assoc : (a b c : Bool) → ((a || b) || c) ≡ (a || (b || c))
-or-assoc true b c = refl
-or-assoc false b c = refl
 
 module _ (a b : ℕ) where
   -- whether f matches, behind the fields u, before which the search was in a record, or not
@@ -61,18 +57,18 @@ module _ (a b : ℕ) where
       by (inr h) = inr h
 
   -- ---- what stands behind a match changes nothing
-  pub same-search : (x : Search) (r : Bool) (q : ℕ) (before : List Stored) (f : Stored) (behind behind′ : List Stored) → matches r before f ≡ true
+  pub same-search : (x : Progress) (r : Bool) (q : ℕ) (before : List Stored) (f : Stored) (behind behind′ : List Stored) → matches r before f ≡ true
       → searched a b x r q (before ++ (f ∷ behind)) ≡ searched a b x r q (before ++ (f ∷ behind′))
   unfolding searched
   same-search x r q [] f behind behind′ m = rw (at-once r f ∙ m)
   same-search x r q (g ∷ before) f behind behind′ m =
       let n = q + roomOf (length (g .content)) in
-      ap (cond (isMatch a b r (g .kind) (g .content)) (record { sought = At (x .number) (x .start); visited = x .visited + 1 }))
+      ap (cond (isMatch a b r (g .kind) (g .content)) (record { sought = At (x .number) (x .place); visited = x .visited + 1 }))
       (same-search (visitOf x r (g .kind) n) (r || isEnd g) n before f behind behind′ (later r g before f ∙ m))
 
   -- ---- where the search ends
   -- The answer and the field that decides it: a match in the record of that number, or else the last of all.
-  pub record Ends (x : Search) (r : Bool) (fs : List Stored) (y : Sought) : Type 0 where
+  pub record Ends (x : Progress) (r : Bool) (fs : List Stored) (y : Sought) : Type 0 where
     pub before : List Stored
     pub deciding : Stored
     pub behind : List Stored
@@ -80,10 +76,6 @@ module _ (a b : ℕ) where
     pub none : Unmatched r before
     pub found : (n p : ℕ) → y ≡ At n p → (matches r before deciding ≡ true) × (n + cond r 0 1 ≡ x .number + count 0xff before)
     pub nowhere : y ≡ Nowhere → behind ≡ []
-
-  -- in the header no record is behind
-  abbrev pub Fresh : Bool → Search → Type 0
-  Fresh r x = r ≡ false → x .number ≡ 0
 
   no-part : (u : List Stored) (f : Stored) (v : List Stored) → [] ≡ u ++ (f ∷ v) → ⊥
   no-part [] f v e = omega (arith, ap length e)
@@ -93,8 +85,8 @@ module _ (a b : ℕ) where
   in-record true k d h = refl
   in-record false k d h = absurd (false≢true h)
 
-  module _ (x : Search) (r : Bool) (f : Stored) (w : Fresh r x) where
-    found-here : (fs : List Stored) → isMatch a b r (f .kind) (f .content) ≡ true → Ends x r (f ∷ fs) (At (x .number) (x .start))
+  module _ (x : Progress) (r : Bool) (f : Stored) where
+    found-here : (fs : List Stored) → isMatch a b r (f .kind) (f .content) ≡ true → Ends x r (f ∷ fs) (At (x .number) (x .place))
     found-here fs m =
         record {
           before = [];
@@ -118,14 +110,6 @@ module _ (a b : ℕ) where
           nowhere = λ e. refl;
         }
 
-    fresh-next : (q : ℕ) → Fresh (r || isEnd f) (visitOf x r (f .kind) q)
-    fresh-next q = by r (isEnd f) w
-      where
-        by : (o e : Bool) → (o ≡ false → x .number ≡ 0) → (o || e) ≡ false → cond e (cond o (x .number + 1) 0) (x .number) ≡ 0
-        by true e w h = absurd (false≢true (sym h))
-        by false true w h = refl
-        by false false w h = w refl
-
     -- one field more before
     further : (q : ℕ) (fs : List Stored) (y : Sought) → isMatch a b r (f .kind) (f .content) ≡ false → Ends (visitOf x r (f .kind) q) (r || isEnd f) fs y → Ends x r (f ∷ fs) y
     further q fs y m t =
@@ -135,7 +119,7 @@ module _ (a b : ℕ) where
           behind = t .behind;
           parts = ap (_∷_ f) (t .parts);
           none = none;
-          found = λ n p e. let h = t .found n p e in (sym (later r f (t .before) (t .deciding)) ∙ h .0, number r (isEnd f) w n (h .1));
+          found = λ n p e. let h = t .found n p e in (sym (later r f (t .before) (t .deciding)) ∙ h .0, number r (isEnd f) n (h .1));
           nowhere = t .nowhere;
         }
       where
@@ -146,26 +130,26 @@ module _ (a b : ℕ) where
             let j : t .before ≡ u ++ (g ∷ v) = cc in
             rw (← i) (sym (later r f u g) ∙ t .none u g v j)
 
-        number : (o e : Bool) → (o ≡ false → x .number ≡ 0) → (n : ℕ)
-            → n + cond (o || e) 0 1 ≡ cond e (cond o (x .number + 1) 0) (x .number) + count 0xff (t .before)
+        number : (o e : Bool) (n : ℕ)
+            → n + cond (o || e) 0 1 ≡ x .number + cond e (cond o 1 0) 0 + count 0xff (t .before)
             → n + cond o 0 1 ≡ x .number + (cond e 1 0 + count 0xff (t .before))
-        number true true w n h = omega arith
-        number true false w n h = omega arith
-        number false true w n h = omega (arith, w refl)
-        number false false w n h = omega arith
+        number true true n h = omega arith
+        number true false n h = omega arith
+        number false true n h = omega arith
+        number false false n h = omega arith
 
-  pub ends : (x : Search) (r : Bool) (q : ℕ) (f : Stored) (fs : List Stored) → Fresh r x → Ends x r (f ∷ fs) (searched a b x r q (f ∷ fs) .sought)
+  pub ends : (x : Progress) (r : Bool) (q : ℕ) (f : Stored) (fs : List Stored) → Ends x r (f ∷ fs) (searched a b x r q (f ∷ fs) .sought)
   unfolding searched
-  ends x r q f [] w = by (isMatch a b r (f .kind) (f .content)) refl
+  ends x r q f [] = by (isMatch a b r (f .kind) (f .content)) refl
     where
-      by : (m : Bool) → isMatch a b r (f .kind) (f .content) ≡ m → Ends x r (f ∷ []) (cond {A = Found} m (record { sought = At (x .number) (x .start); visited = x .visited + 1 }) (record { sought = Nowhere; visited = x .visited + 1 }) .sought)
-      by true e = found-here x r f w [] e
-      by false e = last-here x r f w
-  ends x r q f (g ∷ fs) w =
+      by : (m : Bool) → isMatch a b r (f .kind) (f .content) ≡ m → Ends x r (f ∷ []) (cond {A = Found} m (record { sought = At (x .number) (x .place); visited = x .visited + 1 }) (record { sought = Nowhere; visited = x .visited + 1 }) .sought)
+      by true e = found-here x r f [] e
+      by false e = last-here x r f
+  ends x r q f (g ∷ fs) =
       let n = q + roomOf (length (f .content)) in
-      by n (isMatch a b r (f .kind) (f .content)) refl _ (ends (visitOf x r (f .kind) n) (r || isEnd f) n g fs (fresh-next x r f w n))
+      by n (isMatch a b r (f .kind) (f .content)) refl _ (ends (visitOf x r (f .kind) n) (r || isEnd f) n g fs)
     where
       by : (n : ℕ) (m : Bool) → isMatch a b r (f .kind) (f .content) ≡ m → (y : Found) → Ends (visitOf x r (f .kind) n) (r || isEnd f) (g ∷ fs) (y .sought)
-          → Ends x r (f ∷ g ∷ fs) (cond m (record { sought = At (x .number) (x .start); visited = x .visited + 1 }) y .sought)
-      by n true e y t = found-here x r f w (g ∷ fs) e
-      by n false e y t = further x r f w n (g ∷ fs) (y .sought) e t
+          → Ends x r (f ∷ g ∷ fs) (cond m (record { sought = At (x .number) (x .place); visited = x .visited + 1 }) y .sought)
+      by n true e y t = found-here x r f (g ∷ fs) e
+      by n false e y t = further x r f n (g ∷ fs) (y .sought) e t

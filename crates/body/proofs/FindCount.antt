@@ -1,5 +1,4 @@
--- What the count of a call of `find` says: the fields up to the deciding one, which is the UUID of the record that is found or the last END, at most a block's share of the body, and 0 with 9.
--- By the search by fields (Deciding), in which two halves say 16 bytes.
+-- What the count of a call of `find` says: it is that of the fields up to the deciding one, at most the body's length divided by 16, and 0 with 9; by what the search ends at (Deciding), read over 16 bytes.
 use Prim.Native.Nat.{ℕ, _+_, _*_, _/_, _≤_}
 use mathlib.Core.Path.{_≡_, refl, sym, ap, subst, _∙_}
 use mathlib.Core.Bool.{Bool, true, false, cond, _||_, false≢true}
@@ -7,10 +6,10 @@ use mathlib.Core.Logic.{_⊎_, inl, inr}
 use mathlib.Core.List.{List, [], _∷_, _++_}
 use native.Mathlib.Omega.{arith}
 use lib.Dec.{eqb}
-use lib.ListN.{length, take, drop, length-append}
+use lib.ListN.{length, length-append}
 use borrow.Author.Tests.{eqb-true, eq-eqb}
 use Rattle.words.specs.Each.{Each}
-use Rattle.words.specs.Numbers.{numberLow, Bytes, Sized}
+use Rattle.words.specs.Numbers.{Bytes, Sized}
 use Rattle.words.proofs.EachLaws.{both, and, each-middle, each-front}
 use Rattle.fields.specs.Stored.{Stored, bytesOf}
 use Rattle.body.specs.Division.{Whole, joined}
@@ -18,7 +17,7 @@ use Rattle.body.specs.Sections.{isEnd, runs, count}
 use Rattle.body.specs.WellFormed.{VersionFirst, WellFormed}
 use Rattle.body.specs.Decision.{wellFormed}
 use Rattle.body.specs.Find.{isMatch, visitedIn, findOf, findNumber}
-use Rattle.body.specs.Search.{begun, searched}
+use Rattle.body.specs.Search.{atRecord, searched}
 use Rattle.body.specs.Visited.{Matches, LastEnd, NoMatch, Decides, UpTo, Visited}
 use Rattle.body.specs.declared.Sought.{Sought}
 use Rattle.body.specs.declared.Sought.the-variants.{At, Nowhere, NotWellFormed}
@@ -28,7 +27,7 @@ use Rattle.body.proofs.Sectioned.{taken-all, run-end, run-field, run-no
 use Rattle.body.proofs.Verdict.{some-run}
 use Rattle.body.proofs.Searched.{found-is, found-not}
 use Rattle.body.proofs.Answers.{find-is, find-numbers}
-use Rattle.body.proofs.Halves.{has-bytes, has-itself}
+use Rattle.body.proofs.Halves.{low, high, has-bytes, has-itself}
 use Rattle.body.proofs.Deciding.{ended, matches, Unmatched, up-to, same-search, Ends, ends}
 
 -- ---- the match as a test
@@ -43,29 +42,23 @@ ended-some (f ∷ u) = by (isEnd f) (ended-some u)
     by false ih = (λ h. omega (arith, ih .0 h), λ h. ih .1 (omega arith))
 
 module _ (uuid : List ℕ) (y : Sized 16 uuid) where
-  abbrev low : ℕ
-  low = numberLow (take 8 uuid)
-
-  abbrev high : ℕ
-  high = numberLow (take 8 (drop 8 uuid))
-
-  match-says : (u : List Stored) (f : Stored) → Bytes (f .content) → matches low high false u f ≡ true → Matches uuid u f
+  match-says : (u : List Stored) (f : Stored) → Bytes (f .content) → matches (low uuid) (high uuid) false u f ≡ true → Matches uuid u f
   match-says u f x h =
       let i = both (ended u) _ h in
       let j = both (eqb (f .kind) 0x01) _ (i .1) in
       record { in-record = ended-some u .0 (i .0); kind = eqb-true _ _ (j .0); bytes = has-bytes uuid y (f .content) x (j .1) }
 
-  match-test : (u : List Stored) (f : Stored) → Matches uuid u f → matches low high false u f ≡ true
+  match-test : (u : List Stored) (f : Stored) → Matches uuid u f → matches (low uuid) (high uuid) false u f ≡ true
   match-test u f m =
       and (ended u) _ (ended-some u .1 (m .in-record)) (and (eqb (f .kind) 0x01) _ (eq-eqb _ _ (m .kind)) (has-itself uuid y (f .content) (m .bytes)))
 
-  unmatched-says : (fs : List Stored) → Unmatched low high false fs → NoMatch uuid fs
+  unmatched-says : (fs : List Stored) → Unmatched (low uuid) (high uuid) false fs → NoMatch uuid fs
   unmatched-says fs h u f v e m = false≢true (sym (h u f v e) ∙ match-test u f m)
 
-  unmatched-test : (fs : List Stored) → Each Whole fs → NoMatch uuid fs → Unmatched low high false fs
-  unmatched-test fs w h u f v e = by (matches low high false u f) refl
+  unmatched-test : (fs : List Stored) → Each Whole fs → NoMatch uuid fs → Unmatched (low uuid) (high uuid) false fs
+  unmatched-test fs w h u f v e = by (matches (low uuid) (high uuid) false u f) refl
     where
-      by : (t : Bool) → matches low high false u f ≡ t → t ≡ false
+      by : (t : Bool) → matches (low uuid) (high uuid) false u f ≡ t → t ≡ false
       by true k = absurd (h u f v e (match-says u f (each-middle Whole u f v (subst (Each Whole) e w) .content) k))
       by false k = refl
 
@@ -101,12 +94,12 @@ visited-few a b r (f ∷ fs) = by (isMatch a b r (f .kind) (f .content)) _ (visi
     by false v ih = omega (arith, ih)
 
 -- ---- the call, taken by its contract
-module _ (s uuid : List ℕ) (r : Found) (y : Sized 16 uuid) (c : (r ≡ findOf s (numberLow (take 8 uuid)) (numberLow (take 8 (drop 8 uuid)))) × Bytes s) where
+module _ (s uuid : List ℕ) (r : Found) (y : Sized 16 uuid) (c : (r ≡ findOf s (low uuid) (high uuid)) × Bytes s) where
   abbrev a : ℕ
-  a = numberLow (take 8 uuid)
+  a = low uuid
 
   abbrev b : ℕ
-  b = numberLow (take 8 (drop 8 uuid))
+  b = high uuid
 
   module _ (w : WellFormed s) where
     visited-is : r .visited ≡ length (visitedIn a b false (w .fields))
@@ -124,32 +117,32 @@ module _ (s uuid : List ℕ) (r : Found) (y : Sized 16 uuid) (c : (r ≡ findOf 
         by (inl m) = inl (match-test uuid y before f m)
         by (inr l) = inr (l .1)
 
-    pub search-is : r ≡ searched a b (begun 0 0) false 0 (w .fields)
-    search-is = c .0 ∙ sym (found-is a b s (decides s w)) ∙ ap (searched a b (begun 0 0) false 0) (taken-all s (decides s w) ∙ fields-are s w)
+    search-is : r ≡ searched a b (atRecord 0 0 0) false 0 (w .fields)
+    search-is = c .0 ∙ sym (found-is a b s (decides s w)) ∙ ap (searched a b (atRecord 0 0 0) false 0) (taken-all s (decides s w) ∙ fields-are s w)
 
-    ends-so : Ends a b (begun 0 0) false (w .fields) (r .sought)
+    ends-so : Ends a b (atRecord 0 0 0) false (w .fields) (r .sought)
     ends-so = rw (ap (λ (x : Found). x .sought) search-is) (by (w .fields) (w .version))
       where
-        by : (fs : List Stored) → VersionFirst fs → Ends a b (begun 0 0) false fs (searched a b (begun 0 0) false 0 fs .sought)
+        by : (fs : List Stored) → VersionFirst fs → Ends a b (atRecord 0 0 0) false fs (searched a b (atRecord 0 0 0) false 0 fs .sought)
         by [] v = absurd v
-        by (f ∷ fs) v = ends a b (begun 0 0) false 0 f fs (λ h. refl)
+        by (f ∷ fs) v = ends a b (atRecord 0 0 0) false 0 f fs
 
-    abbrev t : Ends a b (begun 0 0) false (w .fields) (r .sought)
+    abbrev t : Ends a b (atRecord 0 0 0) false (w .fields) (r .sought)
     t = ends-so
 
     up : (Is : List Stored → Stored → List Stored → Type 0) → Is (t .before) (t .deciding) (t .behind) → Matches uuid (t .before) (t .deciding) ⊎ LastEnd (t .deciding) (t .behind)
         → UpTo s uuid (r .visited) Is
     up Is i m =
-        let d : Decides uuid (t .before) (t .deciding) (t .behind) = record { not-before = unmatched-says uuid y (t .before) (t .none); is = m } in
+        let n = unmatched-says uuid y (t .before) (t .none) in
         record {
           well-formed = w;
           before = t .before;
           deciding = t .deciding;
           behind = t .behind;
           fields = t .parts;
-          decides = d;
+          not-before = n;
           is = i;
-          visited = count-exactly (t .before) (t .deciding) (t .behind) (t .parts) d;
+          visited = count-exactly (t .before) (t .deciding) (t .behind) (t .parts) (record { not-before = n; is = m });
         }
 
     found-up : (n p : ℕ) → r .sought ≡ At n p → Visited s uuid (At n p) (r .visited)
@@ -199,24 +192,24 @@ module _ (s uuid : List ℕ) (r : Found) (y : Sized 16 uuid) (c : (r ≡ findOf 
 
 -- ---- two calls: of bodies with the same fields up to the deciding one the answers are equal, with their counts
 pub same-answer : (s s′ uuid : List ℕ) (r r′ : Found) → Sized 16 uuid
-    → (r ≡ findOf s (numberLow (take 8 uuid)) (numberLow (take 8 (drop 8 uuid)))) × Bytes s
-    → (r′ ≡ findOf s′ (numberLow (take 8 uuid)) (numberLow (take 8 (drop 8 uuid)))) × Bytes s′
+    → (r ≡ findOf s (low uuid) (high uuid)) × Bytes s
+    → (r′ ≡ findOf s′ (low uuid) (high uuid)) × Bytes s′
     → (w : WellFormed s) (w′ : WellFormed s′) (before : List Stored) (f : Stored) (behind behind′ : List Stored)
     → w .fields ≡ before ++ (f ∷ behind) → w′ .fields ≡ before ++ (f ∷ behind′)
     → Decides uuid before f behind → Decides uuid before f behind′ → r ≡ r′
 same-answer s s′ uuid r r′ y c c′ w w′ before f behind behind′ e e′ d d′ =
-    search-is s uuid r y c w ∙ ap (searched a b (begun 0 0) false 0) e
+    search-is s uuid r y c w ∙ ap (searched a b (atRecord 0 0 0) false 0) e
     ∙ by (d .is) (d′ .is)
-    ∙ sym (search-is s′ uuid r′ y c′ w′ ∙ ap (searched a b (begun 0 0) false 0) e′)
+    ∙ sym (search-is s′ uuid r′ y c′ w′ ∙ ap (searched a b (atRecord 0 0 0) false 0) e′)
   where
     a : ℕ
-    a = numberLow (take 8 uuid)
+    a = low uuid
 
     b : ℕ
-    b = numberLow (take 8 (drop 8 uuid))
+    b = high uuid
 
     by : Matches uuid before f ⊎ LastEnd f behind → Matches uuid before f ⊎ LastEnd f behind′
-        → searched a b (begun 0 0) false 0 (before ++ (f ∷ behind)) ≡ searched a b (begun 0 0) false 0 (before ++ (f ∷ behind′))
-    by (inl m) o = same-search a b (begun 0 0) false 0 before f behind behind′ (match-test uuid y before f m)
+        → searched a b (atRecord 0 0 0) false 0 (before ++ (f ∷ behind)) ≡ searched a b (atRecord 0 0 0) false 0 (before ++ (f ∷ behind′))
+    by (inl m) o = same-search a b (atRecord 0 0 0) false 0 before f behind behind′ (match-test uuid y before f m)
     by (inr l) (inl m) = absurd (omega (arith, l .0, m .kind))
-    by (inr l) (inr l′) = ap (λ (v : List Stored). searched a b (begun 0 0) false 0 (before ++ (f ∷ v))) (l .1 ∙ sym (l′ .1))
+    by (inr l) (inr l′) = ap (λ (v : List Stored). searched a b (atRecord 0 0 0) false 0 (before ++ (f ∷ v))) (l .1 ∙ sym (l′ .1))

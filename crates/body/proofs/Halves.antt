@@ -27,23 +27,23 @@ halves-inj d u x y l e f =
     let b : take 8 (drop 8 u) ≡ drop 8 u = take-all 8 (drop 8 u) (omega (arith, length-drop 8 u)) in
     sym (take-append-drop 8 d) ∙ ap₂ _++_ i (sym a ∙ j ∙ b) ∙ take-append-drop 8 u
 
+abbrev pub low : List ℕ → ℕ
+low uuid = numberLow (take 8 uuid)
+
+abbrev pub high : List ℕ → ℕ
+high uuid = numberLow (take 8 (drop 8 uuid))
+
 module _ (uuid : List ℕ) (y : Sized 16 uuid) where
-  abbrev low : ℕ
-  low = numberLow (take 8 uuid)
-
-  abbrev high : ℕ
-  high = numberLow (take 8 (drop 8 uuid))
-
-  pub has-bytes : (d : List ℕ) → Bytes d → isUuid d low high ≡ true → d ≡ uuid
+  pub has-bytes : (d : List ℕ) → Bytes d → isUuid d (low uuid) (high uuid) ≡ true → d ≡ uuid
   unfolding isUuid
   has-bytes d x h =
       let a = both (eqb (length d) 16) _ h in
-      let b = both (eqb (numberLow (take 8 d)) low) _ (a .1) in
+      let b = both (eqb (numberLow (take 8 d)) (low uuid)) _ (a .1) in
       halves-inj d uuid x y (eqb-true _ _ (a .0)) (eqb-true _ _ (b .0)) (eqb-true _ _ (b .1))
 
-  pub has-itself : (d : List ℕ) → d ≡ uuid → isUuid d low high ≡ true
+  pub has-itself : (d : List ℕ) → d ≡ uuid → isUuid d (low uuid) (high uuid) ≡ true
   unfolding isUuid
-  has-itself d e = rw (e, eq-eqb (length uuid) 16 (y .long), eq-eqb low low refl, eq-eqb high high refl)
+  has-itself d e = rw (e, eq-eqb (length uuid) 16 (y .long), eq-eqb (low uuid) (low uuid) refl, eq-eqb (high uuid) (high uuid) refl)
 
-  pub has-not : (d : List ℕ) → isUuid d low high ≡ false → d ≡ uuid → ⊥
+  pub has-not : (d : List ℕ) → isUuid d (low uuid) (high uuid) ≡ false → d ≡ uuid → ⊥
   has-not d h e = true≢false (sym (has-itself d e) ∙ h)

@@ -23,29 +23,26 @@ use Rattle.body.specs.Find.{isMatch}
 use Rattle.body.specs.Search.{visitOf, searched, searchedOn}
 use Rattle.body.specs.declared.Sought.the-variants.{At, Nowhere}
 use Rattle.body.specs.declared.Found.{Found}
-use Rattle.body.specs.declared.search.Search.{Search}
+use Rattle.body.specs.declared.search.Progress.{Progress}
 use Rattle.body.proofs.Division.{data-long}
 use Rattle.body.proofs.Along.{taken-kind, taken-fits, next-place, fold-took, fold-else, fold-stop}
 
 -- The cursor c, and what is kept so far: each field takes a block at least, and each record a field at least. All of it comes to y.
-pub record Hunts (s : List ℕ) (a b : ℕ) (y : Found) (c : Cursor) (x : Search) : Type 0 where
+pub record Hunts (s : List ℕ) (a b : ℕ) (y : Found) (c : Cursor) (x : Progress) : Type 0 where
   pub few : x .number ≤ x .visited
   pub small : x .visited ≤ c .place
   rest : searchedOn a b x c s ≡ y
 
-pub hunts-start : (s : List ℕ) (a b : ℕ) (c : Cursor) (x : Search) → (x .number ≤ x .visited) × (x .visited ≤ c .place) → Hunts s a b (searchedOn a b x c s) c x
+pub hunts-start : (s : List ℕ) (a b : ℕ) (c : Cursor) (x : Progress) → (x .number ≤ x .visited) × (x .visited ≤ c .place) → Hunts s a b (searchedOn a b x c s) c x
 hunts-start s a b c x h = record { few = h .0; small = h .1; rest = refl }
 
--- an END brings one record more at the most
-visit-number : (x : Search) (r : Bool) (k q : ℕ) → visitOf x r k q .number ≤ x .number + 1
-visit-number x r k q = by (eqb k 0xff) r
-  where
-    by : (e o : Bool) → cond e (cond o (x .number + 1) 0) (x .number) ≤ x .number + 1
-    by true true = omega arith
-    by true false = omega arith
-    by false o = omega arith
+-- a field brings one record more at the most
+one-record : (e r : Bool) → cond e (cond r 1 0) 0 ≤ 1
+one-record true true = omega arith
+one-record true false = omega arith
+one-record false r = omega arith
 
-module _ (s : List ℕ) (a b : ℕ) (y : Found) (c : Cursor) (x : Search) (t : Hunts s a b y c x) where
+module _ (s : List ℕ) (a b : ℕ) (y : Found) (c : Cursor) (x : Progress) (t : Hunts s a b y c x) where
   pub hunts-stop : length s ≤ c .place → record { sought = Nowhere; visited = x .visited } ≡ y
   unfolding searched
   hunts-stop h = fold-stop (searched a b x (c .«in_record») (c .place)) _ s c (t .rest) h
@@ -65,7 +62,7 @@ module _ (s : List ℕ) (a b : ℕ) (y : Found) (c : Cursor) (x : Search) (t : H
     cut : take (c .place + 5 + f .len - (c .place + 5)) (drop (c .place + 5) s) ≡ g .content
     cut = ap (λ (n : ℕ). take n (drop (c .place + 5) s)) (add-sub-cancel-left (c .place + 5) (f .len) ∙ ap (λ (z : Field). z .len) (taken s c f d e .field))
 
-    next : cond (isMatch a b (c .«in_record») (g .kind) (g .content)) (record { sought = At (x .number) (x .start); visited = x .visited + 1 })
+    next : cond (isMatch a b (c .«in_record») (g .kind) (g .content)) (record { sought = At (x .number) (x .place); visited = x .visited + 1 })
         (searched a b (visitOf x (c .«in_record») (g .kind) (c .place + roomOf (length (g .content)))) (c .«in_record» || isEnd g) (c .place + roomOf (length (g .content))) (takenFrom s (d .place))) ≡ y
     unfolding searched
     next = fold-took (searched a b x (c .«in_record») (c .place)) _ s c (t .rest) f d e
@@ -77,21 +74,21 @@ module _ (s : List ℕ) (a b : ℕ) (y : Found) (c : Cursor) (x : Search) (t : H
       tested : isMatch a b (c .«in_record») (g .kind) (g .content) ≡ m
       tested = sym (k ∙ ap₂ (λ (i : ℕ) (l : List ℕ). isMatch a b (c .«in_record») i l) (taken-kind s c f d e) cut)
 
-      pub hunts-found : m ≡ true → record { sought = At (x .number) (x .start); visited = x .visited + 1 } ≡ y
+      pub hunts-found : m ≡ true → record { sought = At (x .number) (x .place); visited = x .visited + 1 } ≡ y
       hunts-found h = rw (tested ∙ h) at next
 
-      pub hunts-next : m ≡ false → (x′ : Search) → x′ ≡ visitOf x (c .«in_record») (f .kind) (d .place) → Hunts s a b y d x′
+      pub hunts-next : m ≡ false → (x′ : Progress) → x′ ≡ visitOf x (c .«in_record») (f .kind) (d .place) → Hunts s a b y d x′
       hunts-next h x′ i =
           let w = forward s c f d e in
           let r = c .«in_record» in
           let z : searched a b (visitOf x r (g .kind) (c .place + roomOf (length (g .content)))) (r || isEnd g) (c .place + roomOf (length (g .content))) (takenFrom s (d .place)) ≡ y = rw (tested ∙ h) at next in
           let j : x′ ≡ visitOf x r (g .kind) (c .place + roomOf (length (g .content))) = i ∙ ap₂ (λ (n p : ℕ). visitOf x r n p) (taken-kind s c f d e) (sym far) in
-          let v : x′ .visited ≡ x .visited + 1 = ap (λ (z : Search). z .visited) i in
-          let n : x′ .number ≤ x .number + 1 = rw i (visit-number x r (f .kind) (d .place)) in
+          let v : x′ .visited ≡ x .visited + 1 = ap (λ (z : Progress). z .visited) i in
+          let n : x′ .number ≤ x .number + 1 = rw i (omega (arith, one-record (eqb (f .kind) 0xff) r)) in
           let l : d .«in_record» ≡ r || isEnd g = ap (λ (z : Cursor). z .«in_record») (taken s c f d e .next) in
           record {
             few = omega (arith, t .few);
             small = omega (arith, t .small, w .0);
-            rest = ap (λ (u : Search). searched a b u (d .«in_record») (d .place) (takenFrom s (d .place))) j
+            rest = ap (λ (u : Progress). searched a b u (d .«in_record») (d .place) (takenFrom s (d .place))) j
                 ∙ ap₂ (λ (o : Bool) (p : ℕ). searched a b (visitOf x r (g .kind) (c .place + roomOf (length (g .content)))) o p (takenFrom s (d .place))) l (sym far) ∙ z;
           }

@@ -3,7 +3,7 @@ use Prim.Native.Nat.{ℕ, _+_, _≤_}
 use mathlib.Core.Path.{_≡_, refl, ap, ap₂, _∙_}
 use mathlib.Core.Bool.{Bool, true, false, cond, _&&_, _||_}
 use mathlib.Core.List.{List, [], _∷_}
-use native.Mathlib.Nat.{zero-add}
+use native.Mathlib.Nat.{add-zero, zero-add}
 use native.Mathlib.Omega.{arith}
 use lib.Dec.{eqb}
 use lib.ListN.{length}
@@ -16,11 +16,11 @@ use Rattle.body.specs.WellFormed.{GoodRecord}
 use Rattle.body.specs.Decision.{fieldsOf, takenFrom, wellFormed, headerIn, recordsIn}
 use Rattle.body.specs.RecordAt.{beforeEnd, behindEnd, recordAt}
 use Rattle.body.specs.Find.{isUuid, has, firstWith, soughtIn, isMatch, visitedIn, findOf}
-use Rattle.body.specs.Search.{begun, visitOf, searched}
+use Rattle.body.specs.Search.{atRecord, visitOf, searched}
 use Rattle.body.specs.declared.Sought.{Sought}
 use Rattle.body.specs.declared.Sought.the-variants.{At, NotWellFormed}
 use Rattle.body.specs.declared.Found.{Found}
-use Rattle.body.specs.declared.search.Search.{Search}
+use Rattle.body.specs.declared.search.Progress.{Progress}
 use Rattle.body.proofs.Along.{taken-stop}
 use Rattle.body.proofs.Sectioned.{inside, afterEnd, taken-behind, Left, left-start, left-turn, left-stop, good-start, taken-all}
 
@@ -43,7 +43,7 @@ module _ (a b : ℕ) where
   empty-no-uuid = refl
 
   -- ---- the count
-  pub counted : (x : Search) (r : Bool) (q : ℕ) (fs : List Stored) → searched a b x r q fs .visited ≡ x .visited + length (visitedIn a b r fs)
+  pub counted : (x : Progress) (r : Bool) (q : ℕ) (fs : List Stored) → searched a b x r q fs .visited ≡ x .visited + length (visitedIn a b r fs)
   unfolding searched visitedIn
   counted x r q [] = omega arith
   counted x r q (f ∷ fs) =
@@ -51,13 +51,13 @@ module _ (a b : ℕ) where
       by (isMatch a b r (f .kind) (f .content)) _ _ (counted (visitOf x r (f .kind) n) (r || isEnd f) n fs)
     where
       by : (m : Bool) (y : Found) (v : List Stored) → y .visited ≡ x .visited + 1 + length v
-          → cond m (record { sought = At (x .number) (x .start); visited = x .visited + 1 }) y .visited ≡ x .visited + length (f ∷ cond m [] v)
+          → cond m (record { sought = At (x .number) (x .place); visited = x .visited + 1 }) y .visited ≡ x .visited + length (f ∷ cond m [] v)
       by true y v ih = omega arith
       by false y v ih = omega (arith, ih)
 
   -- ---- what is found
   -- it does not depend on the count
-  alike : (x y : Search) (r : Bool) (q : ℕ) (fs : List Stored) → x .number ≡ y .number → x .start ≡ y .start
+  alike : (x y : Progress) (r : Bool) (q : ℕ) (fs : List Stored) → x .number ≡ y .number → x .place ≡ y .place
       → searched a b x r q fs .sought ≡ searched a b y r q fs .sought
   unfolding searched
   alike x y r q [] i j = refl
@@ -65,16 +65,16 @@ module _ (a b : ℕ) where
       let n = q + roomOf (length (f .content)) in
       by (isMatch a b r (f .kind) (f .content)) _ _
       (alike (visitOf x r (f .kind) n) (visitOf y r (f .kind) n) (r || isEnd f) n fs
-      (ap (λ (m : ℕ). cond (eqb (f .kind) 0xff) (cond r (m + 1) 0) m) i) (ap (λ (m : ℕ). cond (eqb (f .kind) 0xff) n m) j))
+      (ap (λ (m : ℕ). m + cond (eqb (f .kind) 0xff) (cond r 1 0) 0) i) (ap (λ (m : ℕ). cond (eqb (f .kind) 0xff) n m) j))
     where
       by : (m : Bool) (c d : Found) → c .sought ≡ d .sought
-          → cond m (record { sought = At (x .number) (x .start); visited = x .visited + 1 }) c .sought ≡ cond m (record { sought = At (y .number) (y .start); visited = y .visited + 1 }) d .sought
+          → cond m (record { sought = At (x .number) (x .place); visited = x .visited + 1 }) c .sought ≡ cond m (record { sought = At (y .number) (y .place); visited = y .visited + 1 }) d .sought
       by true c d ih = ap₂ At i j
       by false c d ih = ih
 
   -- in record n, which starts at place p
-  abbrev at : ℕ → ℕ → Search
-  at n p = record { number = n; start = p; visited = 0 }
+  abbrev at : ℕ → ℕ → Progress
+  at n p = atRecord n p 0
 
   -- from place q on, where the fields fs are next: the rest of the header, and the records behind it
   header : (p q : ℕ) (fs : List Stored)
@@ -101,7 +101,7 @@ module _ (a b : ℕ) where
     Rest = count 0x01 (beforeEnd fs) ≤ 1 → searched a b (at n p) true m fs .sought ≡ cond (has a b (beforeEnd fs)) (At n p) behind
 
     passed : isEnd f ≡ false → searched a b (visitOf (at n p) true (f .kind) m) true m fs .sought ≡ searched a b (at n p) true m fs .sought
-    passed e = alike (visitOf (at n p) true (f .kind) m) (at n p) true m fs (rw e) (rw e)
+    passed e = alike (visitOf (at n p) true (f .kind) m) (at n p) true m fs (rw (e, add-zero n)) (rw e)
 
     field : isEnd f ≡ false → Rest → (u v : Bool) → isUuid (f .content) a b ≡ v → cond u 1 0 + count 0x01 (beforeEnd fs) ≤ 1
         → cond (u && v) (record { sought = At n p; visited = 1 }) (searched a b (visitOf (at n p) true (f .kind) m) true m fs) .sought
@@ -150,7 +150,7 @@ module _ (a b : ℕ) where
       abbrev fs : List Stored
       fs = takenFrom s 0
 
-      sought-is : searched a b (begun 0 0) false 0 fs .sought ≡ soughtIn a b (runs (fieldsOf s))
+      sought-is : searched a b (atRecord 0 0 0) false 0 fs .sought ≡ soughtIn a b (runs (fieldsOf s))
       unfolding recordAt
       sought-is =
           let t = left-turn s 0 _ _ (left-start s w) in
@@ -159,10 +159,10 @@ module _ (a b : ℕ) where
           header 0 0 fs
           ∙ rw (← taken-behind s 0 fs refl, next) (records 0 (length (joined h) + 16) (recordsIn (runs (fieldsOf s))) (rw (← next) (t .left)) (good-start s w))
 
-      visited-is : searched a b (begun 0 0) false 0 fs .visited ≡ length (visitedIn a b false (fieldsOf s))
-      visited-is = counted (begun 0 0) false 0 fs ∙ zero-add (length (visitedIn a b false fs)) ∙ ap (λ (l : List Stored). length (visitedIn a b false l)) (taken-all s w)
+      visited-is : searched a b (atRecord 0 0 0) false 0 fs .visited ≡ length (visitedIn a b false (fieldsOf s))
+      visited-is = counted (atRecord 0 0 0) false 0 fs ∙ zero-add (length (visitedIn a b false fs)) ∙ ap (λ (l : List Stored). length (visitedIn a b false l)) (taken-all s w)
 
-      pub found-is : searched a b (begun 0 0) false 0 fs ≡ findOf s a b
+      pub found-is : searched a b (atRecord 0 0 0) false 0 fs ≡ findOf s a b
       unfolding findOf
       found-is = rw w (ap₂ (λ (x : Sought) (n : ℕ). record { sought = x; visited = n }) sought-is visited-is)
 

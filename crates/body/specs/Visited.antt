@@ -29,14 +29,14 @@ pub record Decides (uuid : List ℕ) (before : List Stored) (f : Stored) (behind
   pub not-before : NoMatch uuid before
   pub is : Matches uuid before f ⊎ LastEnd f behind
 
--- v fields of the body are visited, up to the deciding one, it included, of which Is holds
+-- v fields of the body are visited, up to the deciding one, it included, which is as Is says; none before it is the UUID of a record
 pub record UpTo (body uuid : List ℕ) (v : ℕ) (Is : List Stored → Stored → List Stored → Type 0) : Type 0 where
   pub well-formed : WellFormed body
   pub before : List Stored
   pub deciding : Stored
   pub behind : List Stored
   pub fields : well-formed .fields ≡ before ++ (deciding ∷ behind)
-  pub decides : Decides uuid before deciding behind
+  pub not-before : NoMatch uuid before
   pub is : Is before deciding behind
   pub visited : v ≡ length before + 1
 

@@ -8,22 +8,21 @@ ghost use mathlib.Core.Path.{_≡_};
 ghost use Prim.Native.Nat.{_+_, _^_, _<_, _≤_};
 ghost use Rattle.fields.specs.Walk.{start as startOf};
 ghost use Rattle.body.specs.Find.{isUuid, isMatch};
-ghost use Rattle.body.specs.Search.{begun, visitOf, searchedOn};
+ghost use Rattle.body.specs.Search.{atRecord, visitOf, searchedOn};
 
-// The number of the record that the search is in, the place of its first field, and how many fields were visited.
-pub struct Search {
+// How far a search has come: the number of the record that it is in, the place of its first field, and how many fields were visited.
+pub struct Progress {
     pub number: usize,
-    pub start: usize,
+    pub place: usize,
     pub visited: usize,
 }
 
-// Before record 0, or at its start.
-fn begin(start: usize, visited: usize) -> Search
-    ensures { λ r. ⌜ r ≡ begun start visited ⌝ }
+fn at(number: usize, place: usize, visited: usize) -> Progress
+    ensures { λ r. ⌜ r ≡ atRecord number place visited ⌝ }
 {
-    Search {
-        number: 0,
-        start: start,
+    Progress {
+        number: number,
+        place: place,
         visited: visited,
     }
 }
@@ -55,30 +54,22 @@ fn is_match(in_record: bool, kind: u8, d: &[u8], low: u64, high: u64) -> bool
 }
 
 // One field more, which does not decide; the next one starts at this place.
-fn visit(before: Search, in_record: bool, kind: u8, next: usize) -> Search
+fn visit(before: Progress, in_record: bool, kind: u8, next: usize) -> Progress
     requires { ⌜ (before .number ≤ before .visited) × (before .visited + 1 < 2 ^ 64) ⌝ }
     ensures { λ r. ⌜ r ≡ visitOf before «in_record» kind next ⌝ }
 {
-    if kind != 0xff {
-        return Search {
-            number: before.number,
-            start: before.start,
-            visited: before.visited + 1,
-        };
-    }
     let visited = before.visited + 1;
-    if in_record {
-        return Search {
-            number: before.number + 1,
-            start: next,
-            visited: visited,
-        };
+    if kind != 0xff {
+        return at(before.number, before.place, visited);
     }
-    begin(next, visited)
+    if in_record {
+        return at(before.number + 1, next, visited);
+    }
+    at(before.number, next, visited)
 }
 
 // The search on from a cursor: to the count that it is handed it adds one for each field.
-fn seek_on(body: &[u8], from: Cursor, so_far: Search, low: u64, high: u64) -> Found
+fn seek_on(body: &[u8], from: Cursor, so_far: Progress, low: u64, high: u64) -> Found
     requires { ⌜ («so_far» .number ≤ «so_far» .visited) × («so_far» .visited ≤ from .place) ⌝ }
     ensures { λ r. ⌜ r ≡ searchedOn low high «so_far» from (now (body .entry)) ⌝ }
 {
@@ -95,7 +86,7 @@ fn seek_on(body: &[u8], from: Cursor, so_far: Search, low: u64, high: u64) -> Fo
         let end = start + len;
         if is_match(c.in_record, kind, &body[start..end], low, high) {
             return Found {
-                sought: Sought::At(x.number, x.start),
+                sought: Sought::At(x.number, x.place),
                 visited: x.visited + 1,
             };
         }
@@ -110,7 +101,7 @@ fn seek_on(body: &[u8], from: Cursor, so_far: Search, low: u64, high: u64) -> Fo
 
 // The first record with the UUID of these halves, among the fields that the walk takes.
 pub fn seek(body: &[u8], low: u64, high: u64) -> Found
-    ensures { λ r. ⌜ r ≡ searchedOn low high (begun 0 0) startOf (now (body .entry)) ⌝ }
+    ensures { λ r. ⌜ r ≡ searchedOn low high (atRecord 0 0 0) startOf (now (body .entry)) ⌝ }
 {
-    seek_on(body, fields::start(), begin(0, 0), low, high)
+    seek_on(body, fields::start(), at(0, 0, 0), low, high)
 }

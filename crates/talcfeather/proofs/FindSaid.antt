@@ -1,4 +1,4 @@
--- What `talc_find` answers, of the 16 bytes that it was given, and what its count says: what `find` says of them (body, FindCall.antt and FindCount.antt), by the contract of the call; and the count fits its 8 bytes.
+-- What `talc_find` answers, of the 16 bytes that it was given, and what its count says: what `find` says of them (body, FindCall.antt and FindCount.antt), by the contract of the call, and that the count fits its 8 bytes.
 use Prim.Native.Nat.{ℕ, _+_, _^_, _/_, _≤_, _<_}
 use mathlib.Core.Path.{_≡_, refl, sym, ap, _∙_}
 use mathlib.Core.List.{List, [], _∷_, _++_}
@@ -18,14 +18,6 @@ use Rattle.body.proofs.FindCall.{find-says}
 use Rattle.body.proofs.FindCount.{count-says, count-exactly, count-bound, same-answer}
 use Rattle.talcfeather.specs.Numbers.{withZeros, marked, inBytes}
 use Rattle.talcfeather.specs.Find.{TalcFind, findNumbers, foundOf, toldVisited}
-
--- Find returns the first record with the UUID (its number from 0 and the place of its first field), "none", or 9; Q10.a and how many fields it visited.
-pub find-said : {body uuid answer : List ℕ} {n : ℕ} → TalcFind body uuid n answer
-    → (f : Found) × Says body uuid (f .sought) × Visited body uuid (f .sought) (f .visited)
-    × (n ≡ findNumber (f .sought)) × (answer ≡ inBytes (findNumbers f))
-unfolding foundOf
-find-said {body} {uuid} c =
-    (foundOf body uuid, find-says body uuid _ (c .sized) (refl, c .bytes), count-says body uuid _ (c .sized) (refl, c .bytes), c .is-number, c .is-answer)
 
 -- ---- the count, as it stands in the answer
 fourth : (x y z v : ℕ) → take 8 (drop 24 (inBytes (x ∷ y ∷ z ∷ v ∷ []))) ≡ bytesLow 8 v
@@ -54,6 +46,13 @@ module _ {body uuid answer : List ℕ} {n : ℕ} (c : TalcFind body uuid n answe
   told =
       let small : foundOf body uuid .visited < 2 ^ 64 = omega (arith, few, c .short) in
       ap numberLow (ap (λ (l : List ℕ). take 8 (drop 24 l)) (c .is-answer) ∙ at-24 (foundOf body uuid)) ∙ number-bytes 8 (foundOf body uuid .visited) ∙ mod-eq-of-lt small
+
+  -- Find returns the first record with the UUID (its number from 0 and the place of its first field), "none", or 9.
+  -- Q10.a "Find shall report how many fields it visited, ENDs included."
+  pub find-said : (f : Found) × Says body uuid (f .sought) × Visited body uuid (f .sought) (f .visited)
+      × (n ≡ findNumber (f .sought)) × (answer ≡ inBytes (findNumbers f)) × (toldVisited answer ≡ f .visited)
+  unfolding foundOf
+  find-said = (foundOf body uuid, find-says body uuid _ (c .sized) (refl, c .bytes), counts, c .is-number, c .is-answer, told)
 
   -- Q10.a "Let the count be the number of fields from the body's start to the deciding field, it included: the matching UUID, or the last END."
   pub visited-exactly : (w : WellFormed body) (before : List Stored) (f : Stored) (behind : List Stored) → w .fields ≡ before ++ (f ∷ behind)
