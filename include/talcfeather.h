@@ -82,9 +82,10 @@ extern "C" {
 
 /*
  * Version of this header and of the archive that it belongs to. It goes up
- * when an answer grows or changes its meaning; 1 had no such macro, and
- * talc_find()'s answer had 24 bytes. Compile a program with the header that
- * came with its archive: a call sets all bytes of an answer of its own version.
+ * when an answer grows or changes its meaning; 1 had no such macro. Compile a
+ * program with the header that came with its archive. Nothing checks this: a
+ * program compiled with the header of version 1 lends talc_find() 24 bytes, and
+ * 32 are written.
  */
 #define TALC_VERSION 2
 

@@ -4,7 +4,7 @@
 
 mod common;
 
-use common::bodies::{any, damage, data, good, join};
+use common::bodies::{any, damage, data, good, join, UUID};
 use common::calls::*;
 use peer::body::{covered, judge};
 use peer::chain::cbc_encrypt;
@@ -252,7 +252,7 @@ fn finds() {
     let mut found = 0;
     while met.cases() < 20_000 {
         let body = any(&mut random);
-        let uuid = if random.one_in(4) { random.array() } else { [7; 16] };
+        let uuid = if random.one_in(4) { random.array() } else { UUID };
         let ours = find_ours(&body, &uuid, &mut random);
         found += u32::from(ours.answer[0]);
         met.same(ours, find_theirs(&body, &uuid), body.len());

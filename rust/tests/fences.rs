@@ -3,7 +3,7 @@
 
 mod common;
 
-use common::bodies::{any, damage};
+use common::bodies::{any, damage, UUID};
 use common::calls::*;
 use common::fenced::Fenced;
 use common::tables::*;
@@ -53,7 +53,7 @@ fn records() {
     while met.cases() < 2000 {
         let body = any(random);
         for before in [true, false] {
-            met.same(find(&body, &[7; 16], before), find_theirs(&body, &[7; 16]), body.len());
+            met.same(find(&body, &UUID, before), find_theirs(&body, &UUID), body.len());
         }
     }
     met.each_of(&[0, 9], 300);

@@ -3,7 +3,7 @@
 
 mod common;
 
-use common::bodies::{data, good, join, part, record, Part};
+use common::bodies::{data, good, join, part, record, Part, UUID as SOUGHT};
 use common::calls::*;
 use common::tables::numbers;
 use common::traces::shuffle;
@@ -11,7 +11,6 @@ use peer::fields::END;
 use peer::random::Random;
 use talcfeather::{find, Found, Refusal, Search};
 
-const SOUGHT: [u8; 16] = [7; 16];
 const OTHER: [u8; 16] = [8; 16];
 
 fn version() -> Part {
@@ -140,7 +139,8 @@ fn the_same_bytes_elsewhere() {
     assert_eq!(finds(random, &parts), [1, 1, 144, 8]);
     let kinds = [0x00, 0x02, 0x05, 0x0f, 0x11, 0xfe];
     let decoys: Vec<Part> = kinds.iter().map(|kind| part(*kind, &SOUGHT)).collect();
-    let longer = [part(0x05, &[7; 40]), part(0x0d, &[7; 15]), part(0x0d, &[7; 17])];
+    let twice = SOUGHT.repeat(2);
+    let longer = [part(0x05, &twice), part(0x0d, &twice[..15]), part(0x0d, &twice[..17])];
     let other = [&decoys[..], &longer, &smallest(&OTHER)].concat();
     let records = [other, [decoys, smallest(&SOUGHT)].concat()];
     assert_eq!(finds(random, &with_records(&records[..1])), [0, 0, 0, 15]);
@@ -159,14 +159,32 @@ fn one_bit_off() {
     }
 }
 
-/// No record has fewer fields than these, so no body has more ENDs.
+/// Its bytes the other way round, its halves exchanged, and the bytes of each half the other way
+/// round.
+#[test]
+fn other_orders() {
+    let random = &mut Random(14);
+    let (mut back, mut halves, mut each) = (SOUGHT, SOUGHT, SOUGHT);
+    back.reverse();
+    halves.rotate_left(8);
+    each[..8].reverse();
+    each[8..].reverse();
+    for uuid in [back, halves, each] {
+        assert_eq!(finds(random, &with_records(&[smallest(&uuid)])), [0, 0, 0, 6]);
+    }
+}
+
+/// No record has fewer fields than these, so no body of this length has more ENDs.
 #[test]
 fn many_ends() {
     let random = &mut Random(8);
-    let mut records = vec![smallest(&OTHER); 1000];
-    assert_eq!(finds(random, &with_records(&records)), [0, 0, 0, 4002]);
-    records.push(smallest(&SOUGHT));
-    assert_eq!(finds(random, &with_records(&records)), [1, 1000, 80_032, 4003]);
+    for (count, place, visited) in [(1000, 80_032, 4003), (70_000, 5_600_032, 280_003)] {
+        let mut records = vec![smallest(&OTHER); count];
+        assert_eq!(finds(random, &with_records(&records)), [0, 0, 0, visited - 1]);
+        records.push(smallest(&SOUGHT));
+        let found = finds(random, &with_records(&records));
+        assert_eq!(found, [1, count as u64, place, visited]);
+    }
 }
 
 /// As many fields as blocks, up to the longest body and past it. A UUID takes two blocks, so such a
@@ -181,6 +199,8 @@ fn a_block_a_field() {
         let body = join(random, &parts);
         assert_eq!(body.len() as u64, 16 * blocks);
         assert_eq!(answered(random, &body), (0, [0, 0, 0, blocks]));
+        let found = [&body[..], &join(random, &smallest(&SOUGHT))].concat();
+        assert_eq!(answered(random, &found), (0, [1, 0, 16 * blocks, blocks + 1]));
         let body = [body, join(random, &smallest(&OTHER))].concat();
         assert_eq!(answered(random, &body), (0, [0, 0, 0, body.len() as u64 / 16 - 1]));
     }

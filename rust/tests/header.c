@@ -1,6 +1,6 @@
 /*
- * Every call from C, as the header declares it, with null wherever a length is 0. Every answer is
- * full of EE before its call, and is to be zero in every byte after it.
+ * Every call from C, as the header declares it, with null wherever a length is 0. Every answer that
+ * is told by TELL is full of EE before its call, and is to be zero in every byte after it.
  */
 #include <stdio.h>
 #include <string.h>

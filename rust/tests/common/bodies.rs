@@ -56,6 +56,9 @@ fn nonempty(random: &mut Random) -> Vec<u8> {
     data
 }
 
+/// That of every other record. No two of its bytes are equal: in another order it is another UUID.
+pub const UUID: [u8; 16] = [1, 2, 3, 4, 5, 6, 7, 8, 9, 10, 11, 12, 13, 14, 15, 16];
+
 const REPEATABLE: [u8; 8] = [0x0c, 0x0d, 0x0e, 0x11, 0x12, 0x14, 0x80, 0xfe];
 
 fn header(random: &mut Random) -> Vec<Part> {
@@ -74,7 +77,7 @@ fn header(random: &mut Random) -> Vec<Part> {
 }
 
 pub fn record(random: &mut Random) -> Vec<Part> {
-    let uuid = if random.one_in(2) { [7; 16] } else { random.array() };
+    let uuid = if random.one_in(2) { UUID } else { random.array() };
     let mut parts = vec![
         part(0x01, &uuid),
         Part { kind: 0x03, data: nonempty(random) },
