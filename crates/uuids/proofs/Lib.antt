@@ -1,0 +1,5 @@
+mod Steps
+mod Same
+mod Members
+mod Passes
+mod Batches

@@ -1,0 +1,3 @@
+pub mod Uuids
+pub mod Table
+pub mod Batches

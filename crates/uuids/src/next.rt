@@ -1,0 +1,51 @@
+// The next UUID from a place on: from field to field by the lengths alone.
+ghost use mathlib.Core.Path.{_≡_};
+ghost use mathlib.Core.Bool.{_&&_};
+ghost use lib.Dec.{eqb};
+ghost use Rattle.fields.specs.Stored.{roomOf};
+ghost use Rattle.uuids.specs.Batches.{Stepping};
+
+// The place of a UUID's 16 bytes; or none follows.
+pub enum Next {
+    At(usize),
+    Over,
+}
+
+// The bytes that a field with so many bytes of data takes.
+fn room(len: u32) -> usize
+    ensures { λ r. ⌜ r ≡ roomOf len ⌝ }
+{
+    16 * (((len as usize) + 20) / 16)
+}
+
+// A field of type 01, with 16 bytes of data.
+fn is_uuid(kind: u8, len: u32) -> bool
+    ensures { λ r. ⌜ r ≡ eqb kind 0x01 && eqb len 16 ⌝ }
+{
+    if kind == 0x01 {
+        return len == 16;
+    }
+    false
+}
+
+pub fn next_uuid(body: &[u8], from: usize) -> Next
+    ensures { λ r. ⌜ Stepping (now (body .entry)) from r ⌝ }
+{
+    let n = body.len();
+    let mut at = from;
+    while at < n {
+        if n - at < 16 {
+            return Next::Over;
+        }
+        let len = words::numbers::low(body[at], body[at + 1], body[at + 2], body[at + 3]);
+        let room = room(len);
+        if n - at < room {
+            return Next::Over;
+        }
+        if is_uuid(body[at + 4], len) {
+            return Next::At(at + 5);
+        }
+        at += room;
+    }
+    Next::Over
+}
