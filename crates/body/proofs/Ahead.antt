@@ -15,7 +15,7 @@ use Rattle.body.specs.WellFormed.{GoodRecord}
 use Rattle.body.specs.Decision.{fieldsOf, wellFormed, headerIn, recordsIn}
 use Rattle.body.specs.RecordAt.{firstsOf, recordAt, contentAt}
 use Rattle.body.specs.declared.records.Record.{Record}
-use Rattle.body.proofs.Sectioned.{Left, left-start, left-turn, left-some, left-none, good-start, spot-content}
+use Rattle.body.proofs.Sectioned.{Left, left-start, left-turn, left-some, left-none, good-start, is-formed, spot-content}
 
 -- at place p of s the records rs are ahead
 pub record Ahead (s : List ℕ) (p : ℕ) (rs : List (List Stored)) : Type 0 where
@@ -26,9 +26,9 @@ pub record Ahead (s : List ℕ) (p : ℕ) (rs : List (List Stored)) : Type 0 whe
 pub ahead-start : (s : List ℕ) (h : Record) → wellFormed s ≡ true → h ≡ recordAt s 0
     → Ahead s (h .next) (recordsIn (runs (fieldsOf s))) × (h .next ≡ length (joined (headerIn (runs (fieldsOf s)))) + 16)
 ahead-start s h w e =
-    let t = left-turn s 0 _ _ (left-start s w) in
+    let t = left-turn s 0 _ _ (left-start s (is-formed s w)) in
     let n : h .next ≡ recordAt s 0 .next = ap (λ (x : Record). x .next) e in
-    (record { left = rw n (t .left); good = good-start s w }, n ∙ t .next ∙ ap (λ (x : ℕ). x + 16) (zero-add (length (joined (headerIn (runs (fieldsOf s)))))))
+    (record { left = rw n (t .left); good = good-start s (is-formed s w) }, n ∙ t .next ∙ ap (λ (x : ℕ). x + 16) (zero-add (length (joined (headerIn (runs (fieldsOf s)))))))
 
 pub ahead-stop : (s : List ℕ) (p : ℕ) (rs : List (List Stored)) → Ahead s p rs → length s ≤ p → rs ≡ []
 ahead-stop s p rs a h = left-none s rs (a .left) h

@@ -10,11 +10,12 @@ use borrow.Author.Tests.{ltb-true}
 use Rattle.words.specs.Each.{Each}
 use Rattle.words.specs.Members.{to}
 use Rattle.words.specs.Numbers.{numberLow, bytesLow, Bytes, none, more}
+use Rattle.words.specs.Slices.{same}
 use Rattle.fields.specs.Stored.{Stored, stored, fillOf}
 use Rattle.body.specs.Division.{Whole, joined}
 use Rattle.body.specs.Sections.{runs, firstData}
 use Rattle.body.specs.WellFormed.{WellFormed}
-use Rattle.body.specs.Decision.{divided, walkable, goodHeader, goodRecord, goodRuns, wellFormed, coveredOf, judgedOf}
+use Rattle.body.specs.Decision.{divided, walkable, goodHeader, goodRecord, goodRuns, formed, distinct, wellFormed, coveredOf, judgedOf}
 use Rattle.body.specs.Find.{isUuid, firstWith, visitedIn, findOf}
 use Rattle.body.specs.declared.Judged.{Judged}
 use Rattle.body.specs.declared.Judged.the-variants.{Counts, NotWellFormed}
@@ -63,6 +64,7 @@ least-is =
       sections = refl;
       repeats = omega arith;
       mandatory = tt;
+      uuids = λ i j h l e. absurd (omega arith);
     }
 
 -- ==== Others. A field with its fill, of zeros; Version; END; a UUID; a record
@@ -94,10 +96,13 @@ bodies =
     ∷ (joined (version ∷ field 0x11 (0x41 ∷ []) ∷ field 0x11 (0x42 ∷ []) ∷ end ∷ []), Counts 3 0)
     ∷ (joined (version ∷ field 0x0c [] ∷ field 0x0c [] ∷ field 0x12 [] ∷ field 0x12 [] ∷ field 0xfe [] ∷ field 0xfe [] ∷ end ∷ []), Counts 7 0)
     ∷ (joined (version ∷ field 0x01 (0x01 ∷ []) ∷ field 0x04 (replicate 8 0x31) ∷ end ∷ []), Counts 3 0)
-    -- records, in any order of fields; two of one UUID
+    -- records, in any order of fields
     ∷ (joined (version ∷ end ∷ uuid 0x01 ∷ title ∷ password ∷ end ∷ []), Counts 1 1)
     ∷ (joined (version ∷ end ∷ field 0x00 [] ∷ password ∷ field 0x02 [] ∷ title ∷ field 0x02 [] ∷ uuid 0x01 ∷ field 0x15 (0x01 ∷ 0x02 ∷ []) ∷ end ∷ []), Counts 1 1)
-    ∷ (joined (version ∷ end ∷ uuid 0x01 ∷ title ∷ password ∷ end ∷ uuid 0x01 ∷ title ∷ password ∷ end ∷ []), Counts 1 2)
+    -- UUIDs that differ in their first byte only; in their last; the header's is no record's
+    ∷ (joined (version ∷ end ∷ uuid 0x01 ∷ title ∷ password ∷ end ∷ uuid 0x02 ∷ title ∷ password ∷ end ∷ []), Counts 1 2)
+    ∷ (joined (version ∷ end ∷ field 0x01 (replicate 16 0x00) ∷ title ∷ password ∷ end ∷ title ∷ password ∷ field 0x01 (replicate 15 0x00 ++ (0x01 ∷ [])) ∷ end ∷ []), Counts 1 2)
+    ∷ (joined (version ∷ uuid 0x01 ∷ end ∷ uuid 0x01 ∷ title ∷ password ∷ end ∷ []), Counts 2 1)
     ∷ []
 
 -- bodies that are not well formed
@@ -136,18 +141,22 @@ others =
     ∷ joined (version ∷ end ∷ field 0x01 (replicate 15 0x00) ∷ title ∷ password ∷ end ∷ [])
     ∷ joined (version ∷ end ∷ uuid 0x01 ∷ field 0x03 [] ∷ password ∷ end ∷ [])
     ∷ joined (version ∷ end ∷ uuid 0x01 ∷ title ∷ field 0x06 [] ∷ end ∷ [])
+    -- of two different records the UUIDs differ: neighbours; the first and the last of three; at other places in their records
+    ∷ joined (version ∷ end ∷ uuid 0x01 ∷ title ∷ password ∷ end ∷ uuid 0x01 ∷ title ∷ password ∷ end ∷ [])
+    ∷ joined (version ∷ end ∷ uuid 0x01 ∷ title ∷ password ∷ end ∷ uuid 0x02 ∷ title ∷ password ∷ end ∷ uuid 0x01 ∷ title ∷ password ∷ end ∷ [])
+    ∷ joined (version ∷ end ∷ uuid 0x01 ∷ title ∷ password ∷ end ∷ title ∷ password ∷ uuid 0x01 ∷ end ∷ [])
     ∷ []
 
--- three records: UUIDs 01, 02 and 02 again; the header has 03, which no record has
+-- three records: UUIDs 01, 02 and 04; the header has 03, which no record has
 abbrev three : List ℕ
 three =
-    joined (version ∷ uuid 0x03 ∷ end ∷ title ∷ uuid 0x01 ∷ password ∷ end ∷ uuid 0x02 ∷ title ∷ password ∷ end ∷ uuid 0x02 ∷ title ∷ password ∷ end ∷ [])
+    joined (version ∷ uuid 0x03 ∷ end ∷ title ∷ uuid 0x01 ∷ password ∷ end ∷ uuid 0x02 ∷ title ∷ password ∷ end ∷ uuid 0x04 ∷ title ∷ password ∷ end ∷ [])
 
 abbrev found : Sought → ℕ → Found
 found x v = record { sought = x; visited = v }
 
--- what is found, and how many fields are visited: up to the UUID, which is the first, a middle or the last field of its record; up to the last END; and none of a body that is not well formed, be the UUID before
--- its fault
+-- what is found, and how many fields are visited: up to the UUID, which is the first, a middle or the last field of its record; up to the last END; none of a body that is not well formed, where the fault is
+-- behind the UUID, or that the UUID is there twice
 abbrev pub finds : List (Found × Found)
 finds =
     (findOf three 0x02 0, found (Sought.At 1 144) 8)
@@ -157,6 +166,8 @@ finds =
     ∷ (findOf least 0x01 0, found Sought.Nowhere 2)
     ∷ (findOf (least ++ least) 0x01 0, found Sought.NotWellFormed 0)
     ∷ (findOf (joined (version ∷ end ∷ uuid 0x01 ∷ title ∷ password ∷ end ∷ end ∷ [])) 0x01 0, found Sought.NotWellFormed 0)
+    ∷ (findOf (joined (version ∷ end ∷ uuid 0x01 ∷ title ∷ password ∷ end ∷ uuid 0x01 ∷ title ∷ password ∷ end ∷ [])) 0x01 0, found Sought.NotWellFormed 0)
+    ∷ (findOf (joined (version ∷ uuid 0x01 ∷ end ∷ uuid 0x01 ∷ title ∷ password ∷ end ∷ [])) 0x01 0, found (Sought.At 0 64) 4)
     ∷ []
 
 -- the data bytes of all fields in order
@@ -170,7 +181,7 @@ pub cases : (map (λ c. judgedOf (c .0)) bodies ≡ map (λ c. c .1) bodies)
     × (map judgedOf others ≡ map (λ s. NotWellFormed) others)
     × (map (λ c. c .0) finds ≡ map (λ c. c .1) finds)
     × (map (λ c. c .0) covers ≡ map (λ c. c .1) covers)
-unfolding numberLow bytesLow runs firstData divided walkable goodHeader goodRecord goodRuns wellFormed judgedOf isUuid firstWith visitedIn findOf
+unfolding numberLow bytesLow runs firstData divided walkable goodHeader goodRecord goodRuns same distinct formed wellFormed judgedOf isUuid firstWith visitedIn findOf
 cases = (refl, refl, refl, refl)
 
 none-are : (ss : List (List ℕ)) → map wellFormed ss ≡ map (λ s. false) ss → Each (λ s. WellFormed s → ⊥) ss
@@ -181,5 +192,5 @@ none-are (s ∷ ss) e = (
 )
 
 pub others-are-not : Each (λ s. WellFormed s → ⊥) others
-unfolding numberLow bytesLow runs divided goodHeader goodRecord goodRuns wellFormed
+unfolding numberLow bytesLow runs firstData divided goodHeader goodRecord goodRuns same distinct formed wellFormed
 others-are-not = none-are others refl

@@ -1,9 +1,9 @@
 -- `wellFormed` holds exactly of the well-formed bodies, and what the HMAC covers and the counts are those of their fields: clause by clause, each test says its clause.
 use Prim.Native.Nat.{ℕ, _-_, _≤_}
-use mathlib.Core.Path.{_≡_, refl, ap, _∙_}
+use mathlib.Core.Path.{_≡_, refl, sym, ap, _∙_}
 use mathlib.Core.Logic.{_↔_}
 use mathlib.Core.Bool.{Bool, true, false, cond, not, _&&_, false≢true}
-use mathlib.Core.List.{List, [], _∷_, _++_}
+use mathlib.Core.List.{List, [], _∷_, _++_, map}
 use native.Mathlib.Omega.{arith}
 use lib.Dec.{eqb, leb}
 use lib.ListN.{length, getD, length-append}
@@ -15,10 +15,11 @@ use Rattle.words.specs.Numbers.{Bytes}
 use Rattle.fields.specs.Stored.{Stored}
 use Rattle.fields.specs.Walk.{endWithData}
 use Rattle.body.specs.Sections.{runs, count, covered}
-use Rattle.body.specs.WellFormed.{VersionFirst, onceInHeader, One, GoodRecord, WellFormed}
-use Rattle.body.specs.Decision.{fieldsOf, walkable, exactFrom, endsEmpty, versionFirst, one, goodHeader, goodRecord, none, goodRuns, wellFormed, headerIn, recordsIn, headersOf, recordsOf, coveredOf}
+use Rattle.body.specs.WellFormed.{VersionFirst, onceInHeader, One, GoodRecord, uuidOf, WellFormed}
+use Rattle.body.specs.Decision.{fieldsOf, walkable, exactFrom, endsEmpty, versionFirst, one, goodHeader, goodRecord, none, goodRuns, formed, distinct, wellFormed, headerIn, recordsIn, headersOf, recordsOf, coveredOf}
 use Rattle.body.proofs.Division.{divides, division, exact}
 use Rattle.body.proofs.Along.{walkable-all}
+use Rattle.body.proofs.Distinct.{uuids-differ}
 
 -- every END has length 0
 empty-end : (f : Stored) → (not (endWithData (f .kind) (length (f .content))) ≡ true) ↔ (f .kind ≡ 0xff → length (f .content) ≡ 0)
@@ -105,11 +106,18 @@ unfolding goodRuns
 sections-out h [] k r = rw (header h .1 k)
 sections-out h (q ∷ rs) k r = rw (header h .1 k) (records-out (q ∷ rs) r)
 
+-- the records between the first run and the last
+in-sections : (h : List Stored) (rs us : List (List Stored)) → us ≡ h ∷ (rs ++ ([] ∷ [])) → recordsIn us ≡ rs
+in-sections h rs us e =
+    let n : length rs ≡ length (rs ++ ([] ∷ [])) - 1 = simp length-append (omega arith) in
+    ap recordsIn e ∙ take-at rs ([] ∷ []) (length (rs ++ ([] ∷ [])) - 1) n
+
 module _ (s : List ℕ) where
   decided : Bytes s → wellFormed s ≡ true → WellFormed s
-  unfolding wellFormed
+  unfolding wellFormed formed
   decided b h =
-      let x = both (exactFrom s 0) _ h in
+      let f = both (formed s) _ h in
+      let x = both (exactFrom s 0) _ (f .0) in
       let y = both (endsEmpty (fieldsOf s)) _ (x .1) in
       let z = both (versionFirst (fieldsOf s)) _ (y .1) in
       let t = sections-in (runs (fieldsOf s)) (z .1) in
@@ -123,6 +131,7 @@ module _ (s : List ℕ) where
         sections = t .2;
         repeats = t .3;
         mandatory = t .4;
+        uuids = uuids-differ (t .1) .0 (ap (λ (rs : List (List Stored)). distinct (map uuidOf rs)) (sym (in-sections (t .0) (t .1) (runs (fieldsOf s)) (t .2))) ∙ f .1);
       }
 
   -- the fields of a well-formed body are those that are read
@@ -130,10 +139,11 @@ module _ (s : List ℕ) where
   fields-are w = division s (w .fields) (w .divides)
 
   pub decides : WellFormed s → wellFormed s ≡ true
-  unfolding wellFormed
+  unfolding wellFormed formed
   decides w =
-      rw (exact s (w .fields) (w .divides), fields-are w, ends-empty (w .fields) .1 (w .ends), version (w .fields) .1 (w .version), w .sections)
-      (sections-out (w .header) (w .records) (w .repeats) (w .mandatory))
+      rw (exact s (w .fields) (w .divides), fields-are w, ends-empty (w .fields) .1 (w .ends), version (w .fields) .1 (w .version))
+      (and (goodRuns false (runs (w .fields))) _ (ap (goodRuns false) (w .sections) ∙ sections-out (w .header) (w .records) (w .repeats) (w .mandatory))
+      (ap (λ (rs : List (List Stored)). distinct (map uuidOf rs)) (in-sections (w .header) (w .records) (runs (w .fields)) (w .sections)) ∙ uuids-differ (w .records) .1 (w .uuids)))
 
   pub well-formed : Bytes s → (wellFormed s ≡ true) ↔ WellFormed s
   well-formed b = (decided b, decides)
@@ -150,9 +160,7 @@ module _ (s : List ℕ) where
   header-is w = ap headerIn (runs-are w)
 
   pub records-are : (w : WellFormed s) → recordsIn (runs (fieldsOf s)) ≡ w .records
-  records-are w =
-      let n : length (w .records) ≡ length (w .records ++ ([] ∷ [])) - 1 = simp length-append (omega arith) in
-      ap recordsIn (runs-are w) ∙ take-at (w .records) ([] ∷ []) (length (w .records ++ ([] ∷ [])) - 1) n
+  records-are w = in-sections (w .header) (w .records) (runs (fieldsOf s)) (runs-are w)
 
   pub counts-are : (w : WellFormed s) → (headersOf s ≡ length (w .header)) × (recordsOf s ≡ length (w .records))
   counts-are w = (ap length (header-is w), ap length (records-are w))

@@ -28,7 +28,7 @@ use Rattle.body.specs.declared.Found.{Found}
 use Rattle.body.proofs.Decided.{well-formed, decides, header-is, records-are}
 use Rattle.body.proofs.Answers.{find-is}
 use Rattle.body.proofs.Halves.{has-bytes, has-not}
-use Rattle.body.proofs.Sectioned.{inside, Next, taken-next, Left, left-start, left-turn}
+use Rattle.body.proofs.Sectioned.{inside, Next, taken-next, Left, left-start, left-turn, is-formed}
 
 -- ---- the search
 -- the first of the records rs that has the UUID of halves a and b
@@ -162,7 +162,7 @@ module _ (s uuid : List ℕ) (y : Sized 16 uuid) (x : Bytes s) where
     searched = ap (λ (f : Found). f .sought) (find-is s (numberLow (take 8 uuid)) (numberLow (take 8 (drop 8 uuid))) w)
 
     sections : Left s 0 (w .header ∷ w .records)
-    sections = rw (← header-is s w, ← records-are s w) (left-start s (decides s w))
+    sections = rw (← header-is s w, ← records-are s w) (left-start s (is-formed s (decides s w)))
 
     found-at : (n p : ℕ) → answer ≡ At n p → FoundAt s uuid n p
     found-at n p e =

@@ -23,7 +23,7 @@ use Rattle.body.specs.declared.Sought.{Sought}
 use Rattle.body.specs.declared.Sought.the-variants.{At, Nowhere, NotWellFormed}
 use Rattle.body.specs.declared.Found.{Found}
 use Rattle.body.proofs.Decided.{well-formed, decides, fields-are}
-use Rattle.body.proofs.Sectioned.{taken-all, run-end, run-field, run-none}
+use Rattle.body.proofs.Sectioned.{taken-all, is-formed, run-end, run-field, run-none}
 use Rattle.body.proofs.Verdict.{some-run}
 use Rattle.body.proofs.Searched.{found-is, found-not}
 use Rattle.body.proofs.Answers.{find-is, find-numbers}
@@ -118,7 +118,7 @@ module _ (s uuid : List ℕ) (r : Found) (y : Sized 16 uuid) (c : (r ≡ findOf 
         by (inr l) = inr (l .1)
 
     search-is : r ≡ searched a b (atRecord 0 0 0) false 0 (w .fields)
-    search-is = c .0 ∙ sym (found-is a b s (decides s w)) ∙ ap (searched a b (atRecord 0 0 0) false 0) (taken-all s (decides s w) ∙ fields-are s w)
+    search-is = c .0 ∙ sym (found-is a b s (decides s w)) ∙ ap (searched a b (atRecord 0 0 0) false 0) (taken-all s (is-formed s (decides s w)) ∙ fields-are s w)
 
     ends-so : Ends a b (atRecord 0 0 0) false (w .fields) (r .sought)
     ends-so = rw (ap (λ (x : Found). x .sought) search-is) (by (w .fields) (w .version))

@@ -19,7 +19,7 @@ use Rattle.fields.specs.declared.Walked.{Walked}
 use Rattle.fields.specs.declared.Walked.the-variants.{Took}
 use Rattle.fields.proofs.Walked as walked
 use Rattle.fields.proofs.Outcomes.{taken}
-use Rattle.body.specs.Decision.{storedAt, fieldsFrom, fieldsOf, exactFrom, endsEmpty, versionFirst, wellFormed, headersOf, recordsOf, judgedOf}
+use Rattle.body.specs.Decision.{storedAt, fieldsFrom, fieldsOf, exactFrom, endsEmpty, versionFirst, formed, headersOf, recordsOf, formedOf}
 use Rattle.body.specs.Tally.{sectionsOf}
 use Rattle.body.specs.declared.Judged.the-variants.{Counts, NotWellFormed}
 use Rattle.body.proofs.Division.{from-none}
@@ -55,12 +55,12 @@ version-none s w q o =
     no-version : storedAt s 0 .kind ≡ 0xff → false ≡ versionFirst (storedAt s 0 ∷ fieldsFrom s (0 + roomOf (lenAt s 0)))
     no-version k = rw k
 
-pub judged-version : (s : List ℕ) → versionFirst (fieldsOf s) ≡ true → sectionsOf s ≡ judgedOf s
-unfolding sectionsOf judgedOf wellFormed
+pub judged-version : (s : List ℕ) → versionFirst (fieldsOf s) ≡ true → sectionsOf s ≡ formedOf s
+unfolding sectionsOf formedOf formed
 judged-version s h = rw h
 
-pub judged-none : (s : List ℕ) → versionFirst (fieldsOf s) ≡ false → NotWellFormed ≡ judgedOf s
-unfolding judgedOf wellFormed
+pub judged-none : (s : List ℕ) → versionFirst (fieldsOf s) ≡ false → NotWellFormed ≡ formedOf s
+unfolding formedOf formed
 judged-none s h = rw h (by (exactFrom s 0) (endsEmpty (fieldsOf s)))
   where
     by : (a b : Bool) → NotWellFormed ≡ cond (a && (b && false)) (Counts (headersOf s) (recordsOf s)) NotWellFormed

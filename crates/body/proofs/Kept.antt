@@ -3,11 +3,11 @@ use Prim.Native.Nat.{ℕ, suc, _+_, _-_, _≤_, min}
 use mathlib.Core.Path.{_≡_, refl, sym, ap, ap₂, _∙_}
 use mathlib.Core.Logic.{_↔_}
 use mathlib.Core.Bool.{Bool, true, false, cond, not, _&&_, _||_, false≢true}
-use mathlib.Core.List.{List, [], _∷_, _++_}
+use mathlib.Core.List.{List, [], _∷_, _++_, map}
 use native.Mathlib.Nat.{zero-add}
 use native.Mathlib.Omega.{arith}
 use lib.Dec.{eqb, leb}
-use lib.ListN.{length, length-take}
+use lib.ListN.{length, take, length-take}
 use borrow.Author.Tests.{eqb-true, eq-eqb}
 use Rattle.words.specs.Each.{Each, allIn}
 use Rattle.words.specs.Members.{among}
@@ -17,9 +17,9 @@ use Rattle.words.proofs.NumberLaws.{bytes-sized}
 use Rattle.fields.specs.Stored.{Stored}
 use Rattle.fields.specs.Walk.{endWithData}
 use Rattle.body.specs.Division.{Whole, joined, Divides}
-use Rattle.body.specs.Sections.{isEnd, push, runs, count, covered}
-use Rattle.body.specs.WellFormed.{onceInHeader, WellFormed}
-use Rattle.body.specs.Decision.{walkable, endsEmpty, versionFirst, one, none, goodHeader, goodRecord, goodRuns, wellFormed, headerIn, recordsIn, coveredOf, judgedOf}
+use Rattle.body.specs.Sections.{isEnd, push, runs, count, firstData, covered}
+use Rattle.body.specs.WellFormed.{onceInHeader, uuidOf, WellFormed}
+use Rattle.body.specs.Decision.{walkable, endsEmpty, versionFirst, one, none, goodHeader, goodRecord, goodRuns, formed, distinct, wellFormed, headerIn, recordsIn, coveredOf, judgedOf}
 use Rattle.body.specs.declared.Judged.{Judged}
 use Rattle.body.specs.declared.Judged.the-variants.{Counts, NotWellFormed}
 use Rattle.body.proofs.Division.{division, exact}
@@ -34,15 +34,21 @@ abbrev pub measured : Bool → List ℕ
 measured false = []
 measured true = 0x01 ∷ 0x03 ∷ 0x06 ∷ []
 
+-- those whose data it compares
+abbrev pub compared : Bool → List ℕ
+compared false = []
+compared true = 0x01 ∷ []
+
 -- gs are the fields fs but for what no clause looks at: r, in a record
 pub data Kept : Bool → List Stored → List Stored → Type 0 where
   nothing : {r : Bool} → Kept r [] []
   -- END may have any fill
   end : {r : Bool} {f g : Stored} {fs gs : List Stored} → isEnd f ≡ true → f .kind ≡ g .kind → length (f .content) ≡ length (g .content)
       → Kept true fs gs → Kept r (f ∷ fs) (g ∷ gs)
-  -- a field may have any data and any fill, but in a record UUID, Title and Password keep their lengths
+  -- a field may have any data and any fill, but in a record UUID, Title and Password keep their lengths, and UUID its data
   field : {r : Bool} {f g : Stored} {fs gs : List Stored} → isEnd f ≡ false → f .kind ≡ g .kind
-      → (among (f .kind) (measured r) ≡ true → length (f .content) ≡ length (g .content)) → Kept r fs gs → Kept r (f ∷ fs) (g ∷ gs)
+      → (among (f .kind) (measured r) ≡ true → length (f .content) ≡ length (g .content)) → (among (f .kind) (compared r) ≡ true → f .content ≡ g .content)
+      → Kept r fs gs → Kept r (f ∷ fs) (g ∷ gs)
   -- there may be one field more of a type that no clause counts; in a record, before its END
   other : {r : Bool} {g : Stored} {fs gs : List Stored} → isEnd g ≡ false → among (g .kind) (counted r) ≡ false → (r ≡ true → 1 ≤ count 0xff fs)
       → Kept r fs gs → Kept r fs (g ∷ gs)
@@ -51,17 +57,48 @@ pub data Kept : Bool → List Stored → List Stored → Type 0 where
 abbrev sizes : ℕ → (ℕ → Bool) → List Stored → Bool
 sizes k t fs = allIn (λ f. cond (eqb (f .kind) k) (t (length (f .content))) true) fs
 
+-- whose data are compared, its length is asked for
+asked : (r : Bool) (k : ℕ) → among k (compared r) ≡ true → among k (measured r) ≡ true
+asked true k m = by (eqb k 0x01) m
+  where
+    by : (b : Bool) → (b || false) ≡ true → (b || among k (0x03 ∷ 0x06 ∷ [])) ≡ true
+    by true m = refl
+    by false m = absurd (false≢true m)
+asked false k m = absurd (false≢true m)
+
 -- two sections that no clause tells apart
 record Like (r : Bool) (u v : List Stored) : Type 0 where
   numbers : (k : ℕ) → among k (counted r) ≡ true → count k u ≡ count k v
   lengths : (k : ℕ) (t : ℕ → Bool) → among k (measured r) ≡ true → sizes k t u ≡ sizes k t v
+  uuid : r ≡ true → uuidOf u ≡ uuidOf v
+
+-- the UUID of a section with one field more
+uuid-field : (r : Bool) (u v : List Stored) (f g : Stored) → f .kind ≡ g .kind → (among (f .kind) (compared r) ≡ true → f .content ≡ g .content)
+    → (r ≡ true → uuidOf u ≡ uuidOf v) → r ≡ true → uuidOf (f ∷ u) ≡ uuidOf (g ∷ v)
+unfolding firstData
+uuid-field false u v f g e d h q = absurd (false≢true q)
+uuid-field true u v f g e d h q = by (eqb (f .kind) 0x01) refl
+  where
+    by : (b : Bool) → eqb (f .kind) 0x01 ≡ b → uuidOf (f ∷ u) ≡ uuidOf (g ∷ v)
+    by true k = rw (← e, k) (d (rw k))
+    by false k = rw (← e, k) (h refl)
+
+uuid-other : (r : Bool) (v : List Stored) (g : Stored) → among (g .kind) (counted r) ≡ false → r ≡ true → uuidOf (g ∷ v) ≡ uuidOf v
+unfolding firstData
+uuid-other false v g o q = absurd (false≢true q)
+uuid-other true v g o q = by (eqb (g .kind) 0x01) o
+  where
+    by : (b : Bool) → (b || among (g .kind) (0x03 ∷ 0x06 ∷ [])) ≡ false → cond b (g .content) (uuidOf v) ≡ uuidOf v
+    by true o = absurd (false≢true (sym o))
+    by false o = refl
 
 like-field : {r : Bool} {u v : List Stored} (f g : Stored) → f .kind ≡ g .kind → (among (f .kind) (measured r) ≡ true → length (f .content) ≡ length (g .content))
-    → Like r u v → Like r (f ∷ u) (g ∷ v)
-like-field {r = r} f g e l h =
+    → (among (f .kind) (compared r) ≡ true → f .content ≡ g .content) → Like r u v → Like r (f ∷ u) (g ∷ v)
+like-field {r = r} {u = u} {v = v} f g e l d h =
     record {
       numbers = λ k m. ap₂ (λ (i n : ℕ). cond (eqb i k) 1 0 + n) e (h .numbers k m);
       lengths = λ k t m. ap₂ _&&_ (by k t m (eqb (f .kind) k) refl ∙ ap (λ (i : ℕ). cond (eqb i k) (t (length (g .content))) true) e) (h .lengths k t m);
+      uuid = uuid-field r u v f g e d (h .uuid);
     }
   where
     by : (k : ℕ) (t : ℕ → Bool) → among k (measured r) ≡ true → (b : Bool) → eqb (f .kind) k ≡ b
@@ -79,6 +116,7 @@ like-other {r = r} {v = v} g o h =
     record {
       numbers = λ k m. rw (is-not k m (eqb (g .kind) k) refl) (h .numbers k m ∙ sym (zero-add (count k v)));
       lengths = λ k t m. rw (is-not k (within r k m) (eqb (g .kind) k) refl) (h .lengths k t m);
+      uuid = λ q. h .uuid q ∙ sym (uuid-other r v g o q);
     }
   where
     is-not : (k : ℕ) → among k (counted r) ≡ true → (b : Bool) → eqb (g .kind) k ≡ b → eqb (g .kind) k ≡ false
@@ -107,9 +145,10 @@ data Likes : Bool → List (List Stored) → List (List Stored) → Type 0 where
   next : {r : Bool} {u v : List Stored} {us vs : List (List Stored)} → Like r u v → Likes true us vs → Likes r (u ∷ us) (v ∷ vs)
 
 likes-field : {r : Bool} {us vs : List (List Stored)} (f g : Stored) → f .kind ≡ g .kind
-    → (among (f .kind) (measured r) ≡ true → length (f .content) ≡ length (g .content)) → Likes r us vs → Likes r (push f us) (push g vs)
-likes-field f g e l (last n) = last refl
-likes-field f g e l (next h n) = next (like-field f g e l h) n
+    → (among (f .kind) (measured r) ≡ true → length (f .content) ≡ length (g .content)) → (among (f .kind) (compared r) ≡ true → f .content ≡ g .content)
+    → Likes r us vs → Likes r (push f us) (push g vs)
+likes-field f g e l d (last n) = last refl
+likes-field f g e l d (next h n) = next (like-field f g e l d h) n
 
 likes-other : {r : Bool} {us vs : List (List Stored)} (g : Stored) → among (g .kind) (counted r) ≡ false → (r ≡ true → 2 ≤ length us) → Likes r us vs → Likes r us (push g vs)
 likes-other {r = true} g o c (last n) = absurd (let z = c refl in omega arith)
@@ -126,6 +165,23 @@ likes-good (next h l) = on _ _ _ h l (likes-good l)
         → goodRuns r (u ∷ us) ≡ goodRuns r (v ∷ vs)
     on r u v h (last n) e = ap₂ _&&_ (like-good r u v h) e
     on r u v h (next g n) e = ap₂ _&&_ (like-good r u v h) e
+
+-- the UUIDs of all runs but the last
+inner : (u : List Stored) (us : List (List Stored)) → 1 ≤ length us → take (length (u ∷ us) - 1) (u ∷ us) ≡ u ∷ take (length us - 1) us
+inner u us h = let e : length (u ∷ us) - 1 ≡ suc (length us - 1) = omega arith in ap (λ (n : ℕ). take n (u ∷ us)) e
+
+likes-uuids : {us vs : List (List Stored)} → Likes true us vs → map uuidOf (take (length us - 1) us) ≡ map uuidOf (take (length vs - 1) vs)
+likes-uuids (last n) = refl
+likes-uuids (next h l) = on _ _ h l (likes-uuids l)
+  where
+    on : (u v : List Stored) {us vs : List (List Stored)} → Like true u v → Likes true us vs → map uuidOf (take (length us - 1) us) ≡ map uuidOf (take (length vs - 1) vs)
+        → map uuidOf (take (length (u ∷ us) - 1) (u ∷ us)) ≡ map uuidOf (take (length (v ∷ vs) - 1) (v ∷ vs))
+    on u v {us} {vs} h (last n) e = ap (map uuidOf) (inner u us (omega arith)) ∙ ap₂ _∷_ (h .uuid refl) e ∙ sym (ap (map uuidOf) (inner v vs (omega arith)))
+    on u v {us} {vs} h (next g n) e = ap (map uuidOf) (inner u us (omega arith)) ∙ ap₂ _∷_ (h .uuid refl) e ∙ sym (ap (map uuidOf) (inner v vs (omega arith)))
+
+records-uuids : {us vs : List (List Stored)} → Likes false us vs → map uuidOf (recordsIn us) ≡ map uuidOf (recordsIn vs)
+records-uuids (last n) = refl
+records-uuids (next h l) = likes-uuids l
 
 -- a run more than ENDs
 many-runs : (fs : List Stored) → length (runs fs) ≡ suc (count 0xff fs)
@@ -144,27 +200,29 @@ same-end f g b k e = ap (λ (i : ℕ). eqb i 0xff) (sym k) ∙ e
 kept-runs : {r : Bool} {fs gs : List Stored} → Kept r fs gs → Likes r (runs fs) (runs gs)
 unfolding runs
 kept-runs nothing = last refl
-kept-runs (end {f = f} {g = g} e k l h) = rw (e, same-end f g true k e) (next (record { numbers = λ k m. refl; lengths = λ k t m. refl }) (kept-runs h))
-kept-runs (field {f = f} {g = g} e k l h) = rw (e, same-end f g false k e) (likes-field f g k l (kept-runs h))
+kept-runs (end {f = f} {g = g} e k l h) = rw (e, same-end f g true k e) (next (record { numbers = λ k m. refl; lengths = λ k t m. refl; uuid = λ q. refl }) (kept-runs h))
+kept-runs (field {f = f} {g = g} e k l d h) = rw (e, same-end f g false k e) (likes-field f g k l d (kept-runs h))
 kept-runs (other {g = g} {fs = fs} e o c h) = rw e (likes-other g o (λ t. let z = c t in omega (arith, many-runs fs)) (kept-runs h))
 
 kept-ends : {r : Bool} {fs gs : List Stored} → Kept r fs gs → endsEmpty fs ≡ endsEmpty gs
 kept-ends nothing = refl
 kept-ends (end e k l h) = ap₂ _&&_ (ap₂ (λ (i n : ℕ). not (endWithData i n)) k l) (kept-ends h)
-kept-ends (field {f = f} {g = g} e k l h) = rw (e, same-end f g false k e) (kept-ends h)
+kept-ends (field {f = f} {g = g} e k l d h) = rw (e, same-end f g false k e) (kept-ends h)
 kept-ends (other e o c h) = rw e (kept-ends h)
 
 -- the clauses on the fields
 abbrev good : List Stored → Bool
-good fs = endsEmpty fs && (versionFirst fs && goodRuns false (runs fs))
+good fs = (endsEmpty fs && (versionFirst fs && goodRuns false (runs fs))) && distinct (map uuidOf (recordsIn (runs fs)))
 
 kept-good : (v w : Stored) (fs gs : List Stored) → v .kind ≡ w .kind → v .content ≡ w .content → Kept false (v ∷ fs) (w ∷ gs) → good (v ∷ fs) ≡ good (w ∷ gs)
 kept-good v w fs gs k d h =
     let e : versionFirst (v ∷ fs) ≡ versionFirst (w ∷ gs) = ap₂ (λ (i : ℕ) (c : List ℕ). versionFirst (record { kind = i; content = c; fill = [] } ∷ [])) k d in
-    rw (kept-ends h, e, likes-good (kept-runs h))
+    let p : endsEmpty (v ∷ fs) && (versionFirst (v ∷ fs) && goodRuns false (runs (v ∷ fs))) ≡ endsEmpty (w ∷ gs) && (versionFirst (w ∷ gs) && goodRuns false (runs (w ∷ gs))) =
+    rw (kept-ends h, e, likes-good (kept-runs h)) in
+    ap₂ _&&_ p (ap distinct (records-uuids (kept-runs h)))
 
 good-of : (s : List ℕ) (fs : List Stored) → Divides s fs → wellFormed s ≡ good fs
-unfolding wellFormed
+unfolding wellFormed formed
 good-of s fs d = rw (exact s fs d, division s fs d)
 
 joined-fields : (fs : List Stored) → Each Whole fs → Bytes (joined fs)
@@ -192,13 +250,13 @@ abbrev pub inRecord : Bool → List Stored → Bool
 inRecord r [] = r
 inRecord r (f ∷ a) = inRecord (cond (isEnd f) true r) a
 
-step : {r : Bool} {fs gs : List Stored} (f g : Stored) → f .kind ≡ g .kind → length (f .content) ≡ length (g .content) → Kept (cond (isEnd f) true r) fs gs
+step : {r : Bool} {fs gs : List Stored} (f g : Stored) → f .kind ≡ g .kind → f .content ≡ g .content → Kept (cond (isEnd f) true r) fs gs
     → Kept r (f ∷ fs) (g ∷ gs)
-step {r = r} {fs = fs} {gs = gs} f g k l h = by (isEnd f) refl h
+step {r = r} {fs = fs} {gs = gs} f g k d h = by (isEnd f) refl h
   where
     by : (b : Bool) → isEnd f ≡ b → Kept (cond b true r) fs gs → Kept r (f ∷ fs) (g ∷ gs)
-    by true e h = end e k l h
-    by false e h = field e k (λ m. l) h
+    by true e h = end e k (ap length d) h
+    by false e h = field e k (λ m. ap length d) (λ m. d) h
 
 same : (r : Bool) (fs : List Stored) → Kept r fs fs
 same r [] = nothing
@@ -225,7 +283,7 @@ module _ (v : Stored) (a b : List Stored) (w : Each Whole (v ∷ (a ++ b))) wher
       → WellFormed (joined (v ∷ (a ++ (f ∷ b)))) ↔ WellFormed (joined (v ∷ (a ++ (g ∷ b))))
   length-kept f g x y k e o =
       kept v v (a ++ (f ∷ b)) (a ++ (g ∷ b)) (between (v ∷ a) b f w x) (between (v ∷ a) b g w y) refl refl
-      (past false (v ∷ a) (f ∷ b) (g ∷ b) (field e k (λ m. absurd (false≢true (sym o ∙ m))) (same (inRecord false (v ∷ a)) b)))
+      (past false (v ∷ a) (f ∷ b) (g ∷ b) (field e k (λ m. absurd (false≢true (sym o ∙ m))) (λ m. absurd (false≢true (sym o ∙ asked (inRecord false (v ∷ a)) (f .kind) m))) (same (inRecord false (v ∷ a)) b)))
 
 -- a field without its fill
 abbrev pub bare : Stored → Stored

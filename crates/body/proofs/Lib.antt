@@ -1,11 +1,14 @@
 pub mod Division
 pub mod Visits
+mod Distinct
 pub mod Decided
 mod Sums
 mod OnceTypes
 mod Verdict
 pub mod Along
 pub mod Sectioned
+mod UuidsAhead
+mod Judging
 pub mod Ahead
 mod Keeps
 mod FirstField

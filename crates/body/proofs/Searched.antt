@@ -22,7 +22,7 @@ use Rattle.body.specs.declared.Sought.the-variants.{At, NotWellFormed}
 use Rattle.body.specs.declared.Found.{Found}
 use Rattle.body.specs.declared.search.Progress.{Progress}
 use Rattle.body.proofs.Along.{taken-stop}
-use Rattle.body.proofs.Sectioned.{inside, afterEnd, taken-behind, Left, left-start, left-turn, left-stop, good-start, taken-all}
+use Rattle.body.proofs.Sectioned.{inside, afterEnd, taken-behind, Left, left-start, left-turn, left-stop, good-start, taken-all, is-formed}
 
 -- an END is no UUID
 end-no-uuid : (f : Stored) → isEnd f ≡ true → eqb (f .kind) 0x01 ≡ false
@@ -153,14 +153,14 @@ module _ (a b : ℕ) where
       sought-is : searched a b (atRecord 0 0 0) false 0 fs .sought ≡ soughtIn a b (runs (fieldsOf s))
       unfolding recordAt
       sought-is =
-          let t = left-turn s 0 _ _ (left-start s w) in
+          let t = left-turn s 0 _ _ (left-start s (is-formed s w)) in
           let h = headerIn (runs (fieldsOf s)) in
           let next : behindEnd 0 fs ≡ length (joined h) + 16 = t .next ∙ ap (λ (x : ℕ). x + 16) (zero-add (length (joined h))) in
           header 0 0 fs
-          ∙ rw (← taken-behind s 0 fs refl, next) (records 0 (length (joined h) + 16) (recordsIn (runs (fieldsOf s))) (rw (← next) (t .left)) (good-start s w))
+          ∙ rw (← taken-behind s 0 fs refl, next) (records 0 (length (joined h) + 16) (recordsIn (runs (fieldsOf s))) (rw (← next) (t .left)) (good-start s (is-formed s w)))
 
       visited-is : searched a b (atRecord 0 0 0) false 0 fs .visited ≡ length (visitedIn a b false (fieldsOf s))
-      visited-is = counted (atRecord 0 0 0) false 0 fs ∙ zero-add (length (visitedIn a b false fs)) ∙ ap (λ (l : List Stored). length (visitedIn a b false l)) (taken-all s w)
+      visited-is = counted (atRecord 0 0 0) false 0 fs ∙ zero-add (length (visitedIn a b false fs)) ∙ ap (λ (l : List Stored). length (visitedIn a b false l)) (taken-all s (is-formed s w))
 
       pub found-is : searched a b (atRecord 0 0 0) false 0 fs ≡ findOf s a b
       unfolding findOf

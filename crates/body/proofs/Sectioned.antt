@@ -22,7 +22,7 @@ use Rattle.fields.proofs.Outcomes.{taken, forward}
 use Rattle.body.specs.Division.{joined}
 use Rattle.body.specs.Sections.{isEnd, runs, firstData}
 use Rattle.body.specs.WellFormed.{GoodRecord}
-use Rattle.body.specs.Decision.{storedAt, fieldsOf, takenFrom, exactFrom, endsEmpty, versionFirst, wellFormed, headerIn, recordsIn}
+use Rattle.body.specs.Decision.{storedAt, fieldsOf, takenFrom, exactFrom, endsEmpty, versionFirst, formed, wellFormed, headerIn, recordsIn}
 use Rattle.body.specs.RecordAt.{beforeEnd, behindEnd, spotOf, recordAt, contentAt}
 use Rattle.body.proofs.Division.{stored-long, data-long}
 use Rattle.body.proofs.Decided.{sections-in}
@@ -216,11 +216,15 @@ module _ (s : List ℕ) where
   left-none [] l h = refl
   left-none (u ∷ us) l h = absurd (left-before l h)
 
+  pub is-formed : wellFormed s ≡ true → formed s ≡ true
+  unfolding wellFormed
+  is-formed h = both (formed s) _ h .0
+
   -- the whole body: the header and the records
-  sections-are : wellFormed s ≡ true
+  sections-are : formed s ≡ true
       → (exactFrom s 0 ≡ true) × (endsEmpty (fieldsOf s) ≡ true)
       × (runs (fieldsOf s) ≡ headerIn (runs (fieldsOf s)) ∷ (recordsIn (runs (fieldsOf s)) ++ ([] ∷ []))) × Each GoodRecord (recordsIn (runs (fieldsOf s)))
-  unfolding wellFormed
+  unfolding formed
   sections-are h =
       let x = both (exactFrom s 0) _ h in
       let y = both (endsEmpty (fieldsOf s)) _ (x .1) in
@@ -230,14 +234,14 @@ module _ (s : List ℕ) where
       let n : length rs ≡ length (rs ++ ([] ∷ [])) - 1 = simp length-append (omega arith) in
       (x .0, y .0, rw (t .2, take-at rs ([] ∷ []) (length (rs ++ ([] ∷ [])) - 1) n), rw (t .2, take-at rs ([] ∷ []) (length (rs ++ ([] ∷ [])) - 1) n) (t .4))
 
-  pub taken-all : wellFormed s ≡ true → takenFrom s 0 ≡ fieldsOf s
+  pub taken-all : formed s ≡ true → takenFrom s 0 ≡ fieldsOf s
   taken-all h = walkable-all (fieldsOf s) (sections-are h .1)
 
-  pub left-start : wellFormed s ≡ true → Left s 0 (headerIn (runs (fieldsOf s)) ∷ recordsIn (runs (fieldsOf s)))
+  pub left-start : formed s ≡ true → Left s 0 (headerIn (runs (fieldsOf s)) ∷ recordsIn (runs (fieldsOf s)))
   left-start h =
       let x = sections-are h in
       let all : takenFrom s 0 ≡ fieldsOf s = taken-all h in
       record { reach = ap (λ (l : List Stored). 0 + length (joined l)) all ∙ eqb-true _ _ (x .0); parted = ap runs all ∙ x .2 }
 
-  pub good-start : wellFormed s ≡ true → Each GoodRecord (recordsIn (runs (fieldsOf s)))
+  pub good-start : formed s ≡ true → Each GoodRecord (recordsIn (runs (fieldsOf s)))
   good-start h = sections-are h .3

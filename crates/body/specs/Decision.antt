@@ -2,15 +2,16 @@
 -- of the well-formed bodies, and the rest exactly of their fields, is shown in proofs/Decided.antt.
 use Prim.Native.Nat.{ℕ, zero, suc, _+_, _-_, _%_}
 use mathlib.Core.Bool.{Bool, true, false, cond, not, _&&_}
-use mathlib.Core.List.{List, [], _∷_}
+use mathlib.Core.List.{List, [], _∷_, map}
 use lib.Dec.{leb, eqb}
 use lib.ListN.{length, getD, take, drop}
 use Rattle.words.specs.Each.{allIn}
+use Rattle.words.specs.Slices.{same}
 use Rattle.fields.specs.Stored.{Stored, roomOf, fillOf}
 use Rattle.fields.specs.Walk.{lenAt, kindAt, dataAt, endWithData}
 use Rattle.body.specs.Division.{joined}
 use Rattle.body.specs.Sections.{runs, count, covered}
-use Rattle.body.specs.WellFormed.{onceInHeader}
+use Rattle.body.specs.WellFormed.{onceInHeader, uuidOf}
 use Rattle.body.specs.declared.Judged.{Judged}
 use Rattle.body.specs.declared.Judged.the-variants.{Counts, NotWellFormed}
 
@@ -77,8 +78,9 @@ goodRuns r [] = false
 goodRuns r (u ∷ []) = r && none u
 goodRuns r (u ∷ v ∷ us) = cond r (goodRecord u) (goodHeader u) && goodRuns true (v ∷ us)
 
-unfoldable pub wellFormed : List ℕ → Bool
-wellFormed s = exactFrom s 0 && (endsEmpty (fieldsOf s) && (versionFirst (fieldsOf s) && goodRuns false (runs (fieldsOf s))))
+-- all clauses but that on the UUIDs of different records
+unfoldable pub formed : List ℕ → Bool
+formed s = exactFrom s 0 && (endsEmpty (fieldsOf s) && (versionFirst (fieldsOf s) && goodRuns false (runs (fieldsOf s))))
 
 -- the first run, and the runs between the first and the last
 abbrev pub headerIn : List (List Stored) → List Stored
@@ -88,6 +90,14 @@ headerIn (u ∷ us) = u
 abbrev pub recordsIn : List (List Stored) → List (List Stored)
 recordsIn [] = []
 recordsIn (u ∷ us) = take (length us - 1) us
+
+-- no two are the same
+unfoldable pub distinct : List (List ℕ) → Bool
+distinct [] = true
+distinct (u ∷ us) = allIn (λ v. not (same u v)) us && distinct us
+
+unfoldable pub wellFormed : List ℕ → Bool
+wellFormed s = formed s && distinct (map uuidOf (recordsIn (runs (fieldsOf s))))
 
 -- header fields and records; ENDs are not counted
 abbrev pub headersOf : List ℕ → ℕ
@@ -99,6 +109,10 @@ recordsOf s = length (recordsIn (runs (fieldsOf s)))
 -- the data of the fields that the walk takes; of a well-formed body these are all its fields
 abbrev pub coveredOf : List ℕ → List ℕ
 coveredOf s = covered (takenFrom s 0)
+
+-- the counts, or none where a clause other than that on the UUIDs fails
+unfoldable pub formedOf : List ℕ → Judged
+formedOf s = cond (formed s) (Counts (headersOf s) (recordsOf s)) NotWellFormed
 
 -- the counts, or 9
 unfoldable pub judgedOf : List ℕ → Judged

@@ -1,5 +1,5 @@
 -- The well-formed body: document 01's sentence, clause by clause.
-use Prim.Native.Nat.{ℕ, _≤_}
+use Prim.Native.Nat.{ℕ, _<_, _≤_}
 use mathlib.Core.Path.{_≡_}
 use mathlib.Core.List.{List, [], _∷_, _++_}
 use lib.ListN.{length, getD}
@@ -7,7 +7,7 @@ use Rattle.words.specs.Each.{Each}
 use Rattle.words.specs.Members.{to}
 use Rattle.fields.specs.Stored.{Stored}
 use Rattle.body.specs.Division.{Divides}
-use Rattle.body.specs.Sections.{runs, count}
+use Rattle.body.specs.Sections.{runs, count, firstData}
 
 -- the first field is Version (00), length 2, second byte 03
 abbrev pub VersionFirst : List Stored → Type 0
@@ -29,6 +29,10 @@ pub record GoodRecord (fields : List Stored) : Type 0 where
   pub title : One 0x03 (λ n. 1 ≤ n) fields
   pub password : One 0x06 (λ n. 1 ≤ n) fields
 
+-- a record's UUID: the data of its field of type 01
+abbrev pub uuidOf : List Stored → List ℕ
+uuidOf r = firstData 0x01 r
+
 pub record WellFormed (body : List ℕ) : Type 0 where
   pub fields : List Stored
   pub header : List Stored
@@ -45,3 +49,5 @@ pub record WellFormed (body : List ℕ) : Type 0 where
   pub repeats : Each (λ k. count k header ≤ 1) onceInHeader
   -- each record has its UUID, Title and Password
   pub mandatory : Each GoodRecord records
+  -- of two different records the UUIDs differ (document 02, Q-7)
+  pub uuids : (i j : ℕ) → i < j → j < length records → uuidOf (getD records i []) ≡ uuidOf (getD records j []) → ⊥

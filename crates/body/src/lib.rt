@@ -1,5 +1,6 @@
 // The well-formed body: judging it, and finding a record in it. Both go by the one walk.
 use fields::Stepped;
+use uuids::Repeat;
 
 pub mod records;
 mod search;
@@ -8,7 +9,9 @@ mod tally;
 ghost use mathlib.Core.Path.{_≡_};
 ghost use mathlib.Core.Bool.{true};
 ghost use Rattle.words.specs.Numbers.{Bytes};
-ghost use Rattle.body.specs.Decision.{fieldsOf, versionFirst, wellFormed, judgedOf};
+ghost use Rattle.uuids.specs.Uuids.{uuidsFrom};
+ghost use Rattle.body.specs.Decision.{fieldsOf, versionFirst, distinct, wellFormed, formedOf, judgedOf};
+ghost use Rattle.body.specs.RecordAt.{recordAt};
 ghost use Rattle.body.specs.Find.{findOf};
 ghost use Rattle.body.specs.Tally.{sectionsOf};
 
@@ -76,11 +79,35 @@ fn sections(body: &[u8]) -> Judged
     Judged::NotWellFormed
 }
 
-pub fn judge(body: &[u8]) -> Judged
-    ensures { λ r. ⌜ r ≡ judgedOf (now (body .entry)) ⌝ }
+// All clauses but that on the UUIDs of different records.
+fn judge_fields(body: &[u8]) -> Judged
+    ensures { λ r. ⌜ r ≡ formedOf (now (body .entry)) ⌝ }
 {
     if version_first(body) {
         return sections(body);
+    }
+    Judged::NotWellFormed
+}
+
+// Whether the UUIDs behind the header differ from one another. The header's own is no record's.
+fn uuids_differ(body: &[u8]) -> bool
+    ensures { λ r. ⌜ r ≡ distinct (uuidsFrom (now (body .entry)) (recordAt (now (body .entry)) 0 .next)) ⌝ }
+{
+    let header = records::record_at(body, 0);
+    let Repeat::Nothing = uuids::repeated(body, header.next) else {
+        return false;
+    };
+    true
+}
+
+pub fn judge(body: &[u8]) -> Judged
+    ensures { λ r. ⌜ r ≡ judgedOf (now (body .entry)) ⌝ }
+{
+    let Judged::Counts(headers, records) = judge_fields(body) else {
+        return Judged::NotWellFormed;
+    };
+    if uuids_differ(body) {
+        return Judged::Counts(headers, records);
     }
     Judged::NotWellFormed
 }
@@ -94,7 +121,7 @@ pub fn well_formed(body: &[u8]) -> bool
     true
 }
 
-// The first record with the UUID of these halves.
+// The record with the UUID of these halves.
 pub fn find(body: &[u8], low: u64, high: u64) -> Found
     ensures { λ r. ⌜ (r ≡ findOf (now (body .entry)) low high) × Bytes (now (body .entry)) ⌝ }
 {

@@ -1,4 +1,4 @@
-mod Steps
+pub mod Steps
 mod Same
 mod Members
 mod Passes

@@ -65,7 +65,7 @@ module _ (s : List ℕ) (p : ℕ) where
       by (suc n) e = rw (lt-leb (after s p) (length s) h)
 
   module _ (h : after s p ≤ length s) where
-    fits : uuidsFrom s p ≡ cond (isUuidAt s p) (dataAt s p ∷ uuidsFrom s (after s p)) (uuidsFrom s (after s p))
+    pub fits : uuidsFrom s p ≡ cond (isUuidAt s p) (dataAt s p ∷ uuidsFrom s (after s p)) (uuidsFrom s (after s p))
     fits =
         let e : length s ≡ suc (length s - 1) = omega arith in
         one (length s - 1) e
