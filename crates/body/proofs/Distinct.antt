@@ -6,10 +6,10 @@ use mathlib.Core.Bool.{Bool, true, false, not, _&&_, false≢true}
 use mathlib.Core.List.{List, [], _∷_, map}
 use native.Mathlib.Omega.{arith}
 use lib.ListN.{length, getD}
-use Rattle.words.specs.Each.{Each, allIn}
+use Rattle.words.specs.Each.{allIn}
 use Rattle.words.specs.Slices.{same}
-use Rattle.words.proofs.EachLaws.{both, and, each}
-use Rattle.words.proofs.SliceLaws.{same-refl, same-true}
+use Rattle.words.proofs.EachLaws.{both, and, each, each-at, each-from}
+use Rattle.words.proofs.Either.{same-false, differ}
 use Rattle.fields.specs.Stored.{Stored}
 use Rattle.uuids.specs.Uuids.{Apart, Repeats}
 use Rattle.uuids.specs.declared.Repeat.{Repeat}
@@ -17,28 +17,19 @@ use Rattle.uuids.specs.declared.Repeat.the-variants.{At, Nothing}
 use Rattle.body.specs.WellFormed.{uuidOf}
 use Rattle.body.specs.Decision.{distinct}
 
-differ : (u v : List ℕ) → (not (same u v) ≡ true) ↔ (u ≡ v → ⊥)
-differ u v = (λ h e. false≢true (sym (ap not (sym (ap (same u) e) ∙ same-refl u)) ∙ h), λ n. by (same u v) refl n)
+apart : (u v : List ℕ) → (not (same u v) ≡ true) ↔ (u ≡ v → ⊥)
+apart u v = (λ h. same-false u v (not-true (same u v) h), λ n. ap not (differ u v n))
   where
-    by : (b : Bool) → same u v ≡ b → (u ≡ v → ⊥) → not b ≡ true
-    by true e n = absurd (n (same-true u v e))
-    by false e n = refl
-
-from-numbers : (P : List ℕ → Type 0) (us : List (List ℕ)) → ((k : ℕ) → k < length us → P (getD us k [])) → Each P us
-from-numbers P [] h = tt
-from-numbers P (u ∷ us) h = (h 0 (omega arith), from-numbers P us (λ k l. h (suc k) (omega arith)))
-
-to-numbers : (P : List ℕ → Type 0) (us : List (List ℕ)) → Each P us → (k : ℕ) → k < length us → P (getD us k [])
-to-numbers P [] h k l = absurd (omega arith)
-to-numbers P (u ∷ us) h zero l = h .0
-to-numbers P (u ∷ us) h (suc k) l = to-numbers P us (h .1) k (omega arith)
+    not-true : (b : Bool) → not b ≡ true → b ≡ false
+    not-true true h = absurd (false≢true h)
+    not-true false h = refl
 
 apart-distinct : (us : List (List ℕ)) → Apart us (length us) → distinct us ≡ true
 unfolding distinct
 apart-distinct [] f = refl
 apart-distinct (u ∷ us) f =
     and (allIn (λ v. not (same u v)) us) (distinct us)
-    (each (λ v. not (same u v)) (λ v. u ≡ v → ⊥) (differ u) us .1 (from-numbers (λ v. u ≡ v → ⊥) us (λ k l. f (suc k) 0 (omega arith) (omega arith))))
+    (each (λ v. not (same u v)) (λ v. u ≡ v → ⊥) (apart u) us .1 (each-from (λ v. u ≡ v → ⊥) us [] (λ k l. f (suc k) 0 (omega arith) (omega arith))))
     (apart-distinct us (λ i j h g. f (suc i) (suc j) (omega arith) (omega arith)))
 
 distinct-apart : (us : List (List ℕ)) → distinct us ≡ true → Apart us (length us)
@@ -46,7 +37,7 @@ unfolding distinct
 distinct-apart [] d i j l g e = absurd (omega arith)
 distinct-apart (u ∷ us) d zero j l g e = absurd (omega arith)
 distinct-apart (u ∷ us) d (suc i) zero l g e =
-    to-numbers (λ v. u ≡ v → ⊥) us (each (λ v. not (same u v)) (λ v. u ≡ v → ⊥) (differ u) us .0 (both (allIn (λ v. not (same u v)) us) (distinct us) d .0)) i (omega arith) e
+    each-at (λ v. u ≡ v → ⊥) us [] (each (λ v. not (same u v)) (λ v. u ≡ v → ⊥) (apart u) us .0 (both (allIn (λ v. not (same u v)) us) (distinct us) d .0)) i (omega arith) e
 distinct-apart (u ∷ us) d (suc i) (suc j) l g e =
     distinct-apart us (both (allIn (λ v. not (same u v)) us) (distinct us) d .1) i j (omega arith) (omega arith) e
 

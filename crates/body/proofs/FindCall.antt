@@ -1,15 +1,18 @@
 -- What the answer of a call of `find` says of the 16 bytes that are sought: the search over the records stops at the first that has them, by recursion on the records; and where the
 -- sections before a record are passed, the walk stands at its first field.
-use Prim.Native.Nat.{ℕ, _+_}
+use Prim.Native.Nat.{ℕ, _+_, _<_}
 use mathlib.Core.Path.{_≡_, refl, sym, ap, subst, _∙_}
 use mathlib.Core.Bool.{Bool, true, false, cond, false≢true}
 use mathlib.Core.List.{List, [], _∷_, _++_}
-use native.Mathlib.Nat.{add-zero, zero-add}
+use mathlib.Core.Logic.{⊎-elim}
+use native.Mathlib.Nat.{add-zero, zero-add, eq-or-lt-of-le}
 use native.Mathlib.Omega.{arith}
 use lib.Dec.{eqb}
-use lib.ListN.{length, take, drop}
+use lib.ListN.{length, getD, take, drop, length-append}
+use lib.Seq.{getD-at}
 use Rattle.words.specs.Each.{Each}
-use Rattle.words.proofs.EachLaws.{each-middle, each-front}
+use Rattle.words.proofs.EachLaws.{each-middle, each-front, each-at}
+use Rattle.words.proofs.Either.{lt-or-ge}
 use Rattle.words.specs.Numbers.{numberLow, Bytes, none, Sized}
 use Rattle.fields.specs.Stored.{Stored}
 use Rattle.fields.specs.Value.{valueOf}
@@ -18,7 +21,7 @@ use Rattle.fields.specs.declared.Field.{Field}
 use Rattle.fields.specs.declared.Walked.the-variants.{Took}
 use Rattle.body.specs.Division.{Whole, joined}
 use Rattle.body.specs.Sections.{isEnd, push, runs, count, firstData}
-use Rattle.body.specs.WellFormed.{GoodRecord, WellFormed}
+use Rattle.body.specs.WellFormed.{GoodRecord, uuidOf, WellFormed}
 use Rattle.body.specs.Decision.{takenFrom, wellFormed}
 use Rattle.body.specs.RecordAt.{beforeEnd}
 use Rattle.body.specs.Find.{has, firstWith, findOf, placeBehind, HasUuid, FoundAt, Says}
@@ -152,6 +155,17 @@ first-field s p u us l c = by (takenFrom s p) refl (left-turn s p u us l .here)
         end false h n =
             record { field = f; rest = beforeEnd fs; fields = sym h; taken = n .walks ∙ ap (λ (x : Field). Took x (after s (inside p))) (shows f fs n) }
 
+-- two records with one UUID are one, since those of different records differ
+module _ (rs : List (List Stored)) (d : (i j : ℕ) → i < j → j < length rs → uuidOf (getD rs i []) ≡ uuidOf (getD rs j []) → ⊥) where
+  one-number : (i j : ℕ) → i < length rs → j < length rs → uuidOf (getD rs i []) ≡ uuidOf (getD rs j []) → i ≡ j
+  one-number i j h g e = ⊎-elim (λ l. absurd (d i j l g e)) (λ l. ⊎-elim (λ q. sym q) (λ q. absurd (d j i q h (sym e))) (eq-or-lt-of-le l)) (lt-or-ge i j)
+
+  only-one : {uuid : List ℕ} (before : List (List Stored)) (u : List Stored) (others : List (List Stored)) → rs ≡ before ++ (u ∷ others) → (n : ℕ) → n ≡ length before → HasUuid uuid u
+      → (i : ℕ) → i < length rs → HasUuid uuid (getD rs i []) → i ≡ n
+  only-one before u others e n k h i l g =
+      let m : n < length rs = omega (arith, ap length e, length-append before (u ∷ others), k) in
+      one-number i n l m (g ∙ sym (ap uuidOf (ap (λ (x : List (List Stored)). getD x n []) e ∙ getD-at before u others [] n (sym k)) ∙ h))
+
 -- ---- the call
 module _ (s uuid : List ℕ) (y : Sized 16 uuid) (x : Bytes s) where
   abbrev answer : Sought
@@ -183,7 +197,7 @@ module _ (s uuid : List ℕ) (y : Sized 16 uuid) (x : Bytes s) where
           records = t .parts;
           number = t .number ∙ zero-add (length (t .before));
           has-it = has-bytes uuid y (firstData 0x01 u) bytes (t .it);
-          none-before = none-has uuid y (t .before) (t .not-before);
+          only = λ i l g. only-one (w .records) (w .uuids) (t .before) u (t .others) (t .parts) n (t .number ∙ zero-add (length (t .before))) (has-bytes uuid y (firstData 0x01 u) bytes (t .it)) i l g;
           place = place;
           field = f .field;
           rest = f .rest;
@@ -212,3 +226,20 @@ pub find-says : (s uuid : List ℕ) (r : Found) → Sized 16 uuid
     → (r ≡ findOf s (numberLow (take 8 uuid)) (numberLow (take 8 (drop 8 uuid)))) × Bytes s
     → Says s uuid (r .sought)
 find-says s uuid r y c = by-answer s uuid y (c .1) (r .sought) (ap (λ (f : Found). f .sought) (sym (c .0)))
+
+-- and a record that has the UUID is the one that it finds
+pub find-only : (s uuid : List ℕ) (r : Found) → Sized 16 uuid
+    → (r ≡ findOf s (numberLow (take 8 uuid)) (numberLow (take 8 (drop 8 uuid)))) × Bytes s
+    → (w : WellFormed s) (i : ℕ) → i < length (w .records) → HasUuid uuid (getD (w .records) i []) → (p : ℕ) × (r .sought ≡ At i p)
+find-only s uuid r y c w i l h = by (r .sought) refl (find-says s uuid r y c)
+  where
+    same : (v : WellFormed s) → w .records ≡ v .records
+    same v = sym (records-are s w) ∙ records-are s v
+
+    by : (v : Sought) → r .sought ≡ v → Says s uuid v → (p : ℕ) × (r .sought ≡ At i p)
+    by (At n p) e f =
+        let rs : w .records ≡ f .well-formed .records = same (f .well-formed) in
+        let q : i ≡ n = f .only i (omega (arith, ap length rs)) (subst (λ (x : List (List Stored)). HasUuid uuid (getD x i [])) rs h) in
+        (p, e ∙ ap (λ (k : ℕ). At k p) (sym q))
+    by Nowhere e f = absurd (each-at (λ u. HasUuid uuid u → ⊥) (f .0 .records) [] (f .1) i (omega (arith, ap length (same (f .0)))) (subst (λ (x : List (List Stored)). HasUuid uuid (getD x i [])) (same (f .0)) h))
+    by NotWellFormed e f = absurd (f w)

@@ -1,10 +1,10 @@
--- Find: the first record with the UUID, by its number from 0 and the place of its first field; none; or 9. And how many fields it visits (document 02, Q-10).
-use Prim.Native.Nat.{ℕ, _+_}
+-- Find: the record with the UUID, by its number from 0 and the place of its first field; none; or 9. And how many fields it visits (document 02, Q-10). In a well-formed body the first match is the only one (Q-7).
+use Prim.Native.Nat.{ℕ, _+_, _<_}
 use mathlib.Core.Path.{_≡_}
 use mathlib.Core.Bool.{Bool, true, false, cond, _&&_, _||_}
 use mathlib.Core.List.{List, [], _∷_, _++_}
 use lib.Dec.{eqb}
-use lib.ListN.{length, take, drop}
+use lib.ListN.{length, getD, take, drop}
 use Rattle.words.specs.Each.{Each}
 use Rattle.words.specs.Numbers.{numberLow}
 use Rattle.fields.specs.Stored.{Stored}
@@ -73,7 +73,7 @@ placeBehind (u ∷ us) = length (joined u) + 16 + placeBehind us
 abbrev pub HasUuid : List ℕ → List Stored → Type 0
 HasUuid uuid r = firstData 0x01 r ≡ uuid
 
--- the body is well formed, and its record of number n, at place p, is the first that has the UUID
+-- the body is well formed, and its record of number n, at place p, is the only one that has the UUID
 pub record FoundAt (body uuid : List ℕ) (n p : ℕ) : Type 0 where
   pub well-formed : WellFormed body
   -- the record, those before it and those after it
@@ -83,7 +83,7 @@ pub record FoundAt (body uuid : List ℕ) (n p : ℕ) : Type 0 where
   pub records : well-formed .records ≡ before ++ (found ∷ others)
   pub number : n ≡ length before
   pub has-it : HasUuid uuid found
-  pub none-before : Each (λ r. HasUuid uuid r → ⊥) before
+  pub only : (i : ℕ) → i < length (well-formed .records) → HasUuid uuid (getD (well-formed .records) i []) → i ≡ n
   -- p is the place of its first field, and there the walk, in a record, takes this field
   pub place : p ≡ placeBehind (well-formed .header ∷ before)
   pub field : Stored

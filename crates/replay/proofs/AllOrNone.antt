@@ -15,7 +15,8 @@ use Rattle.replay.specs.Waiting.{reservedTo, Reserves, sweptTo, Owned, A
 use Rattle.replay.specs.Calls.{Replays}
 use Rattle.replay.specs.declared.Replayed.{Replayed}
 use Rattle.replay.specs.declared.Replayed.the-variants.{Accepted, Refused, NotAState}
-use Rattle.replay.proofs.Tests.{no, lt-or-ge}
+use Rattle.words.proofs.Either.{lt-or-ge}
+use Rattle.replay.proofs.Tests.{no}
 use Rattle.replay.proofs.Fine.{cut-not-fine, record-bytes}
 use Rattle.replay.proofs.Tidy.{Tidy, is-tidy, tidy-is}
 use Rattle.replay.proofs.Passes.{AllGo, passed, tests-agree, settled, goes-both, record-tidy}

@@ -13,7 +13,7 @@ use Rattle.words.specs.Numbers.{numberLow}
 use Rattle.words.specs.Slices.{zeros, same}
 use Rattle.words.proofs.NumberLaws.{number-append}
 use Rattle.words.proofs.SliceLaws.{same-refl}
-use Rattle.replay.proofs.Tests.{differ, eq-or-ne}
+use Rattle.words.proofs.Either.{differ, eq-or-ne}
 
 number-zero : (l : List ℕ) → numberLow l ≡ 0 → l ≡ zeros (length l)
 unfolding numberLow

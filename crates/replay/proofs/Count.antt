@@ -9,7 +9,7 @@ use native.Mathlib.Omega.{arith}
 use borrow.Author.Tests.{eq-eqb, ne-eqb}
 use lib.Dec.{eqb}
 use Rattle.replay.specs.State.{entryAt, cancelOf, slot, stops, seek, placeOf}
-use Rattle.replay.proofs.Tests.{eq-or-ne}
+use Rattle.words.proofs.Either.{eq-or-ne}
 use Rattle.replay.proofs.Visits.{visits}
 use Rattle.replay.proofs.Lookup.{pass-taken}
 

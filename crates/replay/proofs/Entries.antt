@@ -8,7 +8,7 @@ use lib.ListN.{length, take, drop, length-append, length-take, length-drop, take
 use lib.Seq.{take-at, drop-at, take-append-le, drop-append-le, drop-drop, length-take-le, take-all}
 use Rattle.words.specs.Numbers.{numberLow, bytesLow}
 use Rattle.words.proofs.NumberLaws.{number-bytes, bytes-sized}
-use Rattle.replay.proofs.Tests.{lt-or-ge, eq-or-ne}
+use Rattle.words.proofs.Either.{lt-or-ge, eq-or-ne}
 use Rattle.replay.specs.State.{entryAt, idOf, cancelOf, reissueOf, entryOf, put}
 
 pub entry-long : (s : List ℕ) (k : ℕ) → length s ≡ 131072 → k < 4096 → length (entryAt s k) ≡ 32

@@ -9,7 +9,7 @@ use Rattle.words.specs.Slices.{same}
 use Rattle.words.proofs.SliceLaws.{same-refl}
 use Rattle.replay.specs.Trace.{Event}
 use Rattle.replay.specs.Acceptance.{within, joined, gathered, distinct}
-use Rattle.replay.proofs.Tests.{differ}
+use Rattle.words.proofs.Either.{differ}
 
 gathered-more : (us : List (List ℕ)) (es : List Event) (e : Event) → gathered us (es ++ (e ∷ [])) ≡ joined (gathered us es) (e .uuid)
 unfolding gathered

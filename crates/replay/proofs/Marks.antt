@@ -11,7 +11,7 @@ use Rattle.words.proofs.SliceLaws.{same-refl}
 use Rattle.replay.specs.Trace.{Event}
 use Rattle.replay.specs.Cancelled.{In, Held, IsLatest, Cancelled, Alike, AlikeButEdits}
 use Rattle.replay.specs.State.{markOf}
-use Rattle.replay.proofs.Tests.{eq-or-ne, alike-or-not, differ}
+use Rattle.words.proofs.Either.{eq-or-ne, alike-or-not, differ}
 
 -- what an event brings to the mark of kind k of the login u
 abbrev pub markFor : ℕ → List ℕ → Event → ℕ

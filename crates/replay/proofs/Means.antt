@@ -13,7 +13,8 @@ use Rattle.replay.specs.Trace.{Event, eventOf, fine}
 use Rattle.replay.specs.Acceptance.{within, joined, distinct, admits}
 use Rattle.replay.specs.State.{entryAt, cancelOf, reissueOf, entryOf, put, placeOf, isMark, markOf, noted}
 use Rattle.replay.specs.Replay.{goesIn, withRecord}
-use Rattle.replay.proofs.Tests.{no, lt-or-ge, eq-or-ne, alike-or-not}
+use Rattle.words.proofs.Either.{lt-or-ge, eq-or-ne, alike-or-not}
+use Rattle.replay.proofs.Tests.{no}
 use Rattle.replay.proofs.Fine.{id-long, brings}
 use Rattle.replay.proofs.Placed.{free}
 use Rattle.replay.proofs.Tidy.{tidy-cancel, tidy-reissue, mark-range, larger-mark}

@@ -15,7 +15,7 @@ use Rattle.replay.specs.Trace.{recordAt, eventOf, fine}
 use Rattle.replay.specs.State.{entryAt, cancelOf, reissueOf, entryOf, put, stops, placeOf, markOf, noted}
 use Rattle.replay.specs.Replay.{goesIn, withRecord, recordedTo}
 use Rattle.replay.specs.Waiting.{waiting, withPlace, reservedTo, Owned}
-use Rattle.replay.proofs.Tests.{eq-or-ne}
+use Rattle.words.proofs.Either.{eq-or-ne}
 use Rattle.replay.proofs.Fine.{id-long, record-bytes, brings}
 use Rattle.replay.proofs.Tidy.{Tidy, both, tidy-cancel, tidy-reissue, tidy-blank, tidy-small, mark-range, larger-mark}
 use Rattle.replay.proofs.Entries.{entry-of-long, entry-cancel, entry-reissue, put-self, put-again, put-swap}

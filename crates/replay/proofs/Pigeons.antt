@@ -11,7 +11,8 @@ use Rattle.words.proofs.SliceLaws.{same-refl, same-true}
 use Rattle.replay.specs.Trace.{Event}
 use Rattle.replay.specs.Cancelled.{In}
 use Rattle.replay.specs.Acceptance.{within, joined, gathered, distinct}
-use Rattle.replay.proofs.Tests.{no, same-false, differ, alike-or-not}
+use Rattle.words.proofs.Either.{same-false, differ, alike-or-not}
+use Rattle.replay.proofs.Tests.{no}
 use Rattle.replay.proofs.Gathered.{within-last, joined-own, joined-other}
 
 -- no UUID stands there twice

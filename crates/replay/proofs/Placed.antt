@@ -9,7 +9,7 @@ use lib.ListN.{length}
 use Rattle.words.specs.Slices.{same}
 use Rattle.words.proofs.SliceLaws.{same-refl}
 use Rattle.replay.specs.State.{entryAt, idOf, cancelOf, reissueOf, entryOf, put, slot, stops, placeOf, isMark, tidy}
-use Rattle.replay.proofs.Tests.{eq-or-ne}
+use Rattle.words.proofs.Either.{eq-or-ne}
 use Rattle.replay.proofs.Entries.{put-long, put-here, put-there, entry-of-long, entry-id, entry-cancel, entry-reissue}
 use Rattle.replay.proofs.Tidy.{Tidy, mark-range, entry-tidy}
 use Rattle.replay.proofs.Lookup.{Ends, ends-place, place-ends, stop-cases, stop-taken, pass-taken, stops-alike}

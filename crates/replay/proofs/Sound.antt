@@ -11,7 +11,7 @@ use lib.ListN.{length}
 use Rattle.words.specs.Slices.{same}
 use Rattle.words.proofs.SliceLaws.{same-refl}
 use Rattle.replay.specs.State.{entryAt, idOf, cancelOf, reissueOf, entryOf, put, slot, stops, placeOf, isMark}
-use Rattle.replay.proofs.Tests.{lt-or-ge, eq-or-ne}
+use Rattle.words.proofs.Either.{lt-or-ge, eq-or-ne}
 use Rattle.replay.proofs.Tidy.{Tidy, tidy-blank, mark-range}
 use Rattle.replay.proofs.Lookup.{place-ends, stop-cases, stop-taken}
 use Rattle.replay.proofs.Placed as placed

@@ -12,7 +12,7 @@ use Rattle.words.specs.Slices.{zeros}
 use Rattle.replay.specs.Trace.{recordAt}
 use Rattle.replay.specs.State.{entryAt, cancelOf, put, placeOf}
 use Rattle.replay.specs.Waiting.{waiting, withPlace, reservedTo, sweptAt, sweptTo}
-use Rattle.replay.proofs.Tests.{eq-or-ne}
+use Rattle.words.proofs.Either.{eq-or-ne}
 use Rattle.replay.proofs.Tidy.{Tidy, tidy-free, not-one}
 use Rattle.replay.proofs.Entries.{entry-cancel, entry-long, put-long, put-here, put-there, state-same}
 use Rattle.replay.proofs.Fine.{id-long}

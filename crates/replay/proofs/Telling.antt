@@ -14,7 +14,8 @@ use Rattle.replay.specs.Replay.{latestOf, closed, loginOf, toldAt, stand
 use Rattle.replay.specs.Calls.{LatestIs, StandsAs}
 use Rattle.replay.specs.declared.Login.{Login}
 use Rattle.replay.specs.declared.Stood.the-variants.{Of}
-use Rattle.replay.proofs.Tests.{no, lt-or-ge}
+use Rattle.words.proofs.Either.{lt-or-ge}
+use Rattle.replay.proofs.Tests.{no}
 use Rattle.replay.proofs.Tidy.{Tidy}
 use Rattle.replay.proofs.Sound.{cancelFor, reissueFor}
 use Rattle.replay.proofs.Marks.{markIn, mark-latest, mark-none, marks-cancelled, cancelled-marks}

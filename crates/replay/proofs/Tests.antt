@@ -1,4 +1,4 @@
--- What the tests on the way to a `return` say of the definition's own tests: `search tests` closes a `return` of a chain of tests. And each test either holds or not.
+-- What the tests on the way to a `return` say of the definition's own tests: `search tests` closes a `return` of a chain of tests.
 use Prim.Native.Nat.{ℕ, _<_, _≤_}
 use mathlib.Core.Path.{_≡_, refl, sym, ap, _∙_}
 use mathlib.Core.Bool.{Bool, true, false, cond}
@@ -14,37 +14,6 @@ pub ruleset tests = (lt-ltb, le-ltb, le-leb, lt-leb, eq-eqb, ne-eqb)
 
 pub no : {A : Type 0} → true ≡ false → A
 no e = absurd (let z : _≡_ {A = ℕ} 0 1 = cc in omega arith)
-
-pub lt-or-ge : (a b : ℕ) → (a < b) ⊎ (b ≤ a)
-lt-or-ge a b = by (ltb a b) refl
-  where
-    by : (t : Bool) → ltb a b ≡ t → (a < b) ⊎ (b ≤ a)
-    by true e = inl (ltb-true a b e)
-    by false e = inr (ltb-false a b e)
-
-pub eq-or-ne : (a b : ℕ) → (a ≡ b) ⊎ (a ≡ b → ⊥)
-eq-or-ne a b = by (eqb a b) refl
-  where
-    by : (t : Bool) → eqb a b ≡ t → (a ≡ b) ⊎ (a ≡ b → ⊥)
-    by true e = inl (eqb-true a b e)
-    by false e = inr (eqb-false a b e)
-
-pub same-false : (a b : List ℕ) → same a b ≡ false → a ≡ b → ⊥
-same-false a b h e = no (sym (same-refl a) ∙ ap (same a) e ∙ h)
-
-pub differ : (a b : List ℕ) → (a ≡ b → ⊥) → same a b ≡ false
-differ a b n = by (same a b) refl
-  where
-    by : (t : Bool) → same a b ≡ t → t ≡ false
-    by true e = absurd (n (same-true a b e))
-    by false e = refl
-
-pub alike-or-not : (a b : List ℕ) → (a ≡ b) ⊎ (a ≡ b → ⊥)
-alike-or-not a b = by (same a b) refl
-  where
-    by : (t : Bool) → same a b ≡ t → (a ≡ b) ⊎ (a ≡ b → ⊥)
-    by true e = inl (same-true a b e)
-    by false e = inr (same-false a b e)
 
 -- a chain of tests, one by one: the test of a number m that is the definition's n, and of a flag t that is the definition's b
 pub if-eq : {A : Type 0} {m n k : ℕ} {x y : A} (z : A) → m ≡ n → m ≡ k → x ≡ y → x ≡ cond (eqb n k) y z

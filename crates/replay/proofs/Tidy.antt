@@ -14,7 +14,8 @@ use Rattle.words.specs.Slices.{zeros, same}
 use Rattle.words.proofs.SliceLaws.{same-true}
 use Rattle.replay.specs.Trace.{Event}
 use Rattle.replay.specs.State.{entryAt, cancelOf, reissueOf, entryOf, isMark, tidy, tidyTo, isState, markOf}
-use Rattle.replay.proofs.Tests.{no, lt-or-ge, eq-or-ne}
+use Rattle.words.proofs.Either.{lt-or-ge, eq-or-ne}
+use Rattle.replay.proofs.Tests.{no}
 use Rattle.replay.proofs.Entries.{entry-cancel, entry-reissue}
 use Rattle.replay.proofs.Blank.{none-in}
 use Rattle.replay.proofs.Marks.{of-kind, of-other}

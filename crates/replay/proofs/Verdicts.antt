@@ -14,7 +14,8 @@ use Rattle.replay.specs.Acceptance.{distinct, joined, admits, good, Acce
 use Rattle.replay.specs.Replay.{then}
 use Rattle.replay.specs.declared.Replayed.{Replayed}
 use Rattle.replay.specs.declared.Replayed.the-variants.{Accepted, Refused, NotAState}
-use Rattle.replay.proofs.Tests.{no, lt-or-ge, eq-or-ne}
+use Rattle.words.proofs.Either.{lt-or-ge, eq-or-ne}
+use Rattle.replay.proofs.Tests.{no}
 use Rattle.replay.proofs.Gathered.{distinct-more, joined-long}
 
 -- the answers differ

@@ -10,13 +10,13 @@ use lib.Dec.{ltb}
 use lib.ListN.{length, getD, drop, length-drop}
 use lib.Seq.{getD-drop, drop-drop}
 use borrow.Author.Tests.{ltb-true, ltb-false}
+use Rattle.words.proofs.Either.{lt-or-ge}
 use Rattle.uuids.specs.Uuids.{uuidsFrom, Again, Repeats}
 use Rattle.uuids.specs.Table.{idAt}
 use Rattle.uuids.specs.Batches.{Found, Best, batchOf, Passing, answerOf}
 use Rattle.uuids.specs.declared.Repeat.the-variants.{At, Nothing}
 use Rattle.uuids.specs.declared.batch.Went.{Went}
 use Rattle.uuids.proofs.Steps.{few}
-use Rattle.uuids.proofs.Members.{lt-or-ge}
 
 -- of us, the first h were members, and b is the best answer so far; n for none
 pub record Standing (us : List (List ℕ)) (n h b : ℕ) : Type 0 where

@@ -2,32 +2,17 @@
 use Prim.Native.Nat.{ℕ, zero, suc, _+_, _*_, _≤_, _<_}
 use mathlib.Core.Path.{_≡_, refl, sym, ap, _∙_, subst}
 use mathlib.Core.Bool.{Bool, true, false, true≢false}
-use mathlib.Core.Logic.{_⊎_, inl, inr, ⊎-elim}
+use mathlib.Core.Logic.{⊎-elim}
 use mathlib.Core.List.{List, []}
 use native.Mathlib.Nat.{eq-or-lt-of-le}
 use native.Mathlib.Omega.{arith}
-use lib.Dec.{eqb, ltb}
 use lib.ListN.{length, getD, set, replicate, length-set, length-replicate}
 use lib.Seq.{getD-set-same, getD-set-other}
-use borrow.Author.Tests.{eqb-true, eqb-false, ltb-true, ltb-false}
+use Rattle.words.proofs.Either.{lt-or-ge, eq-or-ne}
 use Rattle.uuids.specs.Table.{Tells, idAt, startOf, placeOf, Taken, Holds, Other, Fits, Looks}
 use Rattle.uuids.specs.Batches.{Empty}
 use Rattle.uuids.specs.declared.table.Look.{Look}
 use Rattle.uuids.specs.declared.table.Look.the-variants.{Known, Free, Full}
-
-pub lt-or-ge : (a b : ℕ) → (a < b) ⊎ (b ≤ a)
-lt-or-ge a b = by (ltb a b) refl
-  where
-    by : (t : Bool) → ltb a b ≡ t → (a < b) ⊎ (b ≤ a)
-    by true e = inl (ltb-true a b e)
-    by false e = inr (ltb-false a b e)
-
-same-or-not : (a b : ℕ) → (a ≡ b) ⊎ (a ≡ b → ⊥)
-same-or-not a b = by (eqb a b) refl
-  where
-    by : (t : Bool) → eqb a b ≡ t → (a ≡ b) ⊎ (a ≡ b → ⊥)
-    by true e = inl (eqb-true a b e)
-    by false e = inr (eqb-false a b e)
 
 -- a look-up has come to slot i: all before it, from the start on, are another's
 pub record Seen (s : List ℕ) (base : ℕ) (slots u : List ℕ) (i : ℕ) : Type 0 where
@@ -154,7 +139,7 @@ module _ (s : List ℕ) (base : ℕ) (slots : List ℕ) (us : List (List ℕ)) (
         inside = λ j a. ⊎-elim
             (λ z. subst (λ (k : ℕ). base + 16 * k ≤ length s) (sym (ap (λ (k : ℕ). getD new k 0) z ∙ here)) w)
             (λ n. rw (there j n) (x .fits .inside j (subst (λ (k : ℕ). 0 < k) (there j n) a)))
-            (same-or-not j i);
+            (eq-or-ne j i);
       };
       each = λ k h.
           let b : k ≤ m = omega arith in
@@ -164,7 +149,7 @@ module _ (s : List ℕ) (base : ℕ) (slots : List ℕ) (us : List (List ℕ)) (
           (λ n.
           let o = x .only j (subst (λ (k : ℕ). 0 < k) (there j n) a) in
           (o .0, omega (arith, o .1), ap (λ (k : ℕ). idAt s (placeOf base k)) (there j n) ∙ o .2))
-          (same-or-not j i);
+          (eq-or-ne j i);
     }
 
 -- zeros are no members

@@ -1,10 +1,12 @@
 -- A test and what it says, for one element and for each of a list: by cases on the answers.
-use Prim.Native.Nat.{ℕ, _≤_}
+use Prim.Native.Nat.{ℕ, zero, suc, _<_, _≤_}
 use mathlib.Core.Path.{_≡_, refl}
 use mathlib.Core.Logic.{_↔_}
 use mathlib.Core.Bool.{Bool, true, false, cond, _&&_, false≢true}
 use mathlib.Core.List.{List, [], _∷_, _++_}
+use native.Mathlib.Omega.{arith}
 use lib.Dec.{eqb, leb}
+use lib.ListN.{length, getD}
 use borrow.Author.Tests.{eqb-true, eq-eqb, eqb-false, leb-true, le-leb}
 use Rattle.words.specs.Each.{Each, allIn}
 
@@ -47,3 +49,13 @@ each-middle P (y ∷ a) x b h = each-middle P a x b (h .1)
 pub each-front : {A : Type 0} (P : A → Type 0) (a b : List A) → Each P (a ++ b) → Each P a
 each-front P [] b h = tt
 each-front P (y ∷ a) b h = (h .0, each-front P a b (h .1))
+
+-- by numbers, with any default
+pub each-at : {A : Type 0} (P : A → Type 0) (l : List A) (d : A) → Each P l → (k : ℕ) → k < length l → P (getD l k d)
+each-at P [] d h k g = absurd (omega arith)
+each-at P (a ∷ l) d h zero g = h .0
+each-at P (a ∷ l) d h (suc k) g = each-at P l d (h .1) k (omega arith)
+
+pub each-from : {A : Type 0} (P : A → Type 0) (l : List A) (d : A) → ((k : ℕ) → k < length l → P (getD l k d)) → Each P l
+each-from P [] d h = tt
+each-from P (a ∷ l) d h = (h 0 (omega arith), each-from P l d (λ k g. h (suc k) (omega arith)))

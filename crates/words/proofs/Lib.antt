@@ -3,6 +3,7 @@ pub mod NumberLaws
 pub mod RotationLaws
 pub mod XorLaws
 pub mod SliceLaws
+pub mod Either
 pub mod Every
 pub mod Places
 pub mod HexLaws
