@@ -2,6 +2,7 @@ pub mod Division
 pub mod Visits
 mod Distinct
 pub mod Decided
+mod Marks
 mod Sums
 mod OnceTypes
 mod Verdict

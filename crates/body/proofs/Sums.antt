@@ -6,17 +6,17 @@ use mathlib.Core.List.{List, [], _∷_, _++_}
 use native.Mathlib.Nat.{add-zero, zero-add, add-assoc}
 use native.Mathlib.Omega.{arith}
 use lib.Dec.{eqb, leb, ltb, lit<, T}
-use lib.ListN.{length, getD, set, getD-replicate, length-set}
-use lib.Seq.{getD-set-same, getD-set-other}
-use borrow.Author.Tests.{eqb-true, eqb-false, lt-leb, lt-ltb, ne-eqb}
+use lib.ListN.{length}
+use borrow.Author.Tests.{eqb-true, lt-leb, lt-ltb, ne-eqb}
 use Rattle.words.specs.Each.{allIn}
 use Rattle.words.specs.Members.{among}
 use Rattle.fields.specs.Stored.{Stored}
 use Rattle.body.specs.Sections.{count}
 use Rattle.body.specs.WellFormed.{onceInHeader}
 use Rattle.body.specs.Decision.{none, goodHeader, goodRecord}
-use Rattle.body.specs.Tally.{once, lengthFits, emptySection, noted, passes}
+use Rattle.body.specs.Tally.{once, lengthFits, isMarked, withMark, emptySection, noted, passes}
 use Rattle.body.specs.declared.tally.Section.{Section}
+use Rattle.body.proofs.Marks.{mark-seen, none-seen}
 
 -- no type of the list more than once
 abbrev atMostOnce : List ℕ → List Stored → Bool
@@ -29,8 +29,7 @@ lengths r fs = allIn (λ f. lengthFits r (f .kind) (length (f .content))) fs
 -- the section has the fields cur so far; b: what came before it is right
 pub record Sums (r : Bool) (cur : List Stored) (b : Bool) (x : Section) : Type 0 where
   pub used : x .used ≡ not (none cur)
-  pub size : length (x .seen) ≡ 20
-  pub seen : (k : ℕ) → among k (once r) ≡ true → getD (x .seen) k false ≡ ltb 0 (count k cur)
+  pub seen : (k : ℕ) → among k (once r) ≡ true → isMarked (x .seen) k ≡ ltb 0 (count k cur)
   pub fine : x .fine ≡ b && (lengths r cur && atMostOnce (once r) cur)
 
 -- a field at the end
@@ -109,19 +108,15 @@ small false k o = small-in k (once false) (lit< tt, (lit< tt, (lit< tt, (lit< tt
 small true k o = small-in k (once true) (lit< tt, (lit< tt, (lit< tt, tt))) o
 
 -- a mark more, at j: what is marked at k
-seen-step : (l : List Bool) (j k n : ℕ) (m e : Bool) → length l ≡ 20 → k < 20 → eqb j k ≡ e → (e ≡ true → m ≡ true) → getD l k false ≡ ltb 0 n
-    → getD (cond m (set l j true) l) k false ≡ ltb 0 (n + cond e 1 0)
-seen-step l j k n true true z h e g i =
-    let q : j ≡ k = eqb-true j k e in
-    rw (lt-ltb 0 (n + 1) (omega arith), q) (getD-set-same l k true false (omega arith))
-seen-step l j k n false true z h e g i = absurd (false≢true (g refl))
-seen-step l j k n true false z h e g i =
-    rw (add-zero) (getD-set-other l j k true false (λ q. eqb-false j k e (sym q)) ∙ i)
-seen-step l j k n false false z h e g i = rw (add-zero) i
-
-size-step : (l : List Bool) (j : ℕ) (m : Bool) → length l ≡ 20 → length (cond m (set l j true) l) ≡ 20
-size-step l j true z = length-set l j true ∙ z
-size-step l j false z = z
+seen-step : (w j k n : ℕ) (m e : Bool) → (m ≡ true → j < 20) → k < 20 → eqb j k ≡ e → (e ≡ true → m ≡ true) → isMarked w k ≡ ltb 0 n
+    → isMarked (cond m (withMark w j) w) k ≡ ltb 0 (n + cond e 1 0)
+seen-step w j k n true e f h q g i = mark-seen w j k (f refl) h ∙ ap₂ _||_ q i ∙ by e
+  where
+    by : (e : Bool) → (e || ltb 0 n) ≡ ltb 0 (n + cond e 1 0)
+    by true = sym (lt-ltb 0 (n + 1) (omega arith))
+    by false = ap (ltb 0) (sym (add-zero n))
+seen-step w j k n false true f h q g i = absurd (false≢true (g refl))
+seen-step w j k n false false f h q g i = rw (add-zero) i
 
 pub sums-note : (r : Bool) (cur : List Stored) (b : Bool) (x : Section) (f : Stored) → Sums r cur b x
     → Sums r (cur ++ (f ∷ [])) b (noted x r (f .kind) (length (f .content)))
@@ -130,19 +125,18 @@ sums-note r cur b x f s =
     let n = length (f .content) in
     record {
       used = ap not (sym (some-last cur f));
-      size = size-step (x .seen) k (among k (once r)) (s .size);
-      seen = λ j o. seen-step (x .seen) k j (count j cur) (among k (once r)) (eqb k j) (s .size) (small r j o) refl
+      seen = λ j o. seen-step (x .seen) k j (count j cur) (among k (once r)) (eqb k j) (small r k) (small r j o) refl
           (λ e. ap (λ (i : ℕ). among i (once r)) (eqb-true k j e) ∙ o) (s .seen j o)
           ∙ ap (ltb 0) (sym (count-last j cur f));
-      fine = ap (λ (y : Bool). cond y (cond (lengthFits r k n) (cond (among k (once r)) (not (getD (x .seen) k false)) true) false) false) (s .fine)
-          ∙ fine-step b (lengthFits r k n) (lengths r cur) (atMostOnce (once r) cur) (among k (once r)) (getD (x .seen) k false) (ltb 0 (count k cur)) (s .seen k)
+      fine = ap (λ (y : Bool). cond y (cond (lengthFits r k n) (cond (among k (once r)) (not (isMarked (x .seen) k)) true) false) false) (s .fine)
+          ∙ fine-step b (lengthFits r k n) (lengths r cur) (atMostOnce (once r) cur) (among k (once r)) (isMarked (x .seen) k) (ltb 0 (count k cur)) (s .seen k)
           ∙ ap₂ (λ (y z : Bool). b && (y && z)) (sym (all-last (λ g. lengthFits r (g .kind) (length (g .content))) cur f)) (sym (again (once r) f cur));
     }
 
 pub sums-empty : (r b : Bool) → Sums r [] b (emptySection b)
 unfolding once
-sums-empty false b = record { used = refl; size = refl; seen = λ k o. getD-replicate 20 k false false (small false k o); fine = sym (and-true b) }
-sums-empty true b = record { used = refl; size = refl; seen = λ k o. getD-replicate 20 k false false (small true k o); fine = sym (and-true b) }
+sums-empty false b = record { used = refl; seen = λ k o. none-seen k (small false k o); fine = sym (and-true b) }
+sums-empty true b = record { used = refl; seen = λ k o. none-seen k (small true k o); fine = sym (and-true b) }
 
 exactly : (n : ℕ) → eqb n 1 ≡ leb n 1 && ltb 0 n
 exactly zero = refl

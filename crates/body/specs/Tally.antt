@@ -1,9 +1,9 @@
 -- What the code keeps of the section that it is in, the header or a record, and of a record's first fields. Nothing here is to be believed: no contract of a public function mentions it.
-use Prim.Native.Nat.{ℕ}
+use Prim.Native.Nat.{ℕ, _/_, _%_, _^_}
 use mathlib.Core.Bool.{Bool, true, false, cond, not, _&&_}
 use mathlib.Core.List.{List, [], _∷_}
 use lib.Dec.{eqb, leb}
-use lib.ListN.{getD, set, replicate}
+use lib.Bits.{bitOr}
 use Rattle.words.specs.Members.{among}
 use Rattle.body.specs.WellFormed.{onceInHeader}
 use Rattle.body.specs.Sections.{runs}
@@ -24,23 +24,30 @@ unfoldable pub lengthFits : Bool → ℕ → ℕ → Bool
 lengthFits false k n = true
 lengthFits true k n = cond (eqb k 0x01) (eqb n 16) (cond (eqb k 0x03) (leb 1 n) (cond (eqb k 0x06) (leb 1 n) true))
 
+-- a bit for each type
+abbrev pub isMarked : ℕ → ℕ → Bool
+isMarked seen k = eqb (seen / 2 ^ k % 2) 1
+
+abbrev pub withMark : ℕ → ℕ → ℕ
+withMark seen k = bitOr seen (2 ^ k)
+
 -- nothing seen yet; what came before was right or not
 abbrev pub emptySection : Bool → Section
-emptySection b = record { seen = replicate 20 false; fine = b; used = false }
+emptySection b = record { seen = 0; fine = b; used = false }
 
 abbrev pub stillFine : Section → Bool → ℕ → ℕ → Bool
 stillFine x r k n =
-    cond (x .fine) (cond (lengthFits r k n) (cond (among k (once r)) (not (getD (x .seen) k false)) true) false) false
+    cond (x .fine) (cond (lengthFits r k n) (cond (among k (once r)) (not (isMarked (x .seen) k)) true) false) false
 
 -- one field more
 abbrev pub noted : Section → Bool → ℕ → ℕ → Section
 noted x r k n =
-    record { seen = cond (among k (once r)) (set (x .seen) k true) (x .seen); fine = stillFine x r k n; used = true }
+    record { seen = cond (among k (once r)) (withMark (x .seen) k) (x .seen); fine = stillFine x r k n; used = true }
 
 -- the section may end here
 abbrev pub passes : Section → Bool → Bool
 passes x r =
-    cond (x .fine) (cond r (cond (getD (x .seen) 1 false) (cond (getD (x .seen) 3 false) (getD (x .seen) 6 false) false) false) true) false
+    cond (x .fine) (cond r (cond (isMarked (x .seen) 1) (cond (isMarked (x .seen) 3) (isMarked (x .seen) 6) false) false) true) false
 
 -- a field of type k and length n: an END ends the section
 abbrev pub stepped : Section → Bool → ℕ → ℕ → Section

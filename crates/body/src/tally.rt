@@ -1,11 +1,12 @@
 // What is kept of the section that a pass over a body is in, the header or a record.
 ghost use mathlib.Core.Path.{_≡_};
+ghost use Prim.Native.Nat.{_<_};
 ghost use Rattle.words.specs.Members.{among};
-ghost use Rattle.body.specs.Tally.{once, lengthFits, emptySection, stillFine, noted, passes, stepped, headerField, recordEnd};
+ghost use Rattle.body.specs.Tally.{once, lengthFits, isMarked, withMark, emptySection, stillFine, noted, passes, stepped, headerField, recordEnd};
 
-// Which of the types that may occur once were seen (13 is the highest), whether all is right so far, and whether the section has a field.
+// Which of the types that may occur once were seen, a bit for each (13 is the highest), whether all is right so far, and whether the section has a field.
 pub struct Section {
-    pub seen: [bool; 20],
+    pub seen: u32,
     pub fine: bool,
     pub used: bool,
 }
@@ -13,12 +14,25 @@ pub struct Section {
 pub fn empty(fine: bool) -> Section
     ensures { λ r. ⌜ r ≡ emptySection fine ⌝ }
 {
-    let seen = [false; 20];
     Section {
-        seen: seen,
+        seen: 0,
         fine: fine,
         used: false,
     }
+}
+
+fn is_marked(seen: u32, kind: u8) -> bool
+    requires { ⌜ kind < 20 ⌝ }
+    ensures { λ r. ⌜ r ≡ isMarked seen kind ⌝ }
+{
+    (seen >> (kind as u32)) % 2 == 1
+}
+
+fn with_mark(seen: u32, kind: u8) -> u32
+    requires { ⌜ kind < 20 ⌝ }
+    ensures { λ r. ⌜ r ≡ withMark seen kind ⌝ }
+{
+    seen | (1u32 << (kind as u32))
 }
 
 // Whether a type may occur only once in the header, or in a record.
@@ -70,9 +84,7 @@ fn still_fine(x: Section, in_record: bool, kind: u8, len: usize) -> bool
     if x.fine {
         if length_fits(in_record, kind, len) {
             if only_once(in_record, kind) {
-                let k = kind as usize;
-                let seen = x.seen;
-                return !seen[k];
+                return !is_marked(x.seen, kind);
             }
             return true;
         }
@@ -86,18 +98,15 @@ fn note(x: Section, in_record: bool, kind: u8, len: usize) -> Section
     ensures { λ r. ⌜ r ≡ noted x «in_record» kind len ⌝ }
 {
     let fine = still_fine(x, in_record, kind, len);
-    let mut seen = x.seen;
     if only_once(in_record, kind) {
-        let k = kind as usize;
-        seen[k] = true;
         return Section {
-            seen: seen,
+            seen: with_mark(x.seen, kind),
             fine: fine,
             used: true,
         };
     }
     Section {
-        seen: seen,
+        seen: x.seen,
         fine: fine,
         used: true,
     }
@@ -109,10 +118,9 @@ fn may_end(x: Section, in_record: bool) -> bool
 {
     if x.fine {
         if in_record {
-            let seen = x.seen;
-            if seen[1] {
-                if seen[3] {
-                    return seen[6];
+            if is_marked(x.seen, 1) {
+                if is_marked(x.seen, 3) {
+                    return is_marked(x.seen, 6);
                 }
                 return false;
             }

@@ -16,7 +16,7 @@ use Rattle.twofish.specs.Cipher.{whiten, F0, F1, round, rounds, encrypt}
 use Rattle.twofish.specs.Twofish.{blockOf, blockBytes, encryptWords, encryptBlock}
 use Rattle.chain.specs.Modes.{cbcE, encrypted}
 use Rattle.body.specs.Sections.{runs}
-use Rattle.body.specs.Decision.{divided, goodHeader, goodRecord, goodRuns, wellFormed}
+use Rattle.body.specs.Decision.{divided, goodHeader, goodRecord, goodRuns, formed, distinct, wellFormed}
 use Rattle.body.proofs.Cases.{least, least-bytes}
 use Rattle.file.specs.Layout.{split, tag, marker, firstMarker}
 use Rattle.file.specs.Description.{IsSafe, cbc}
@@ -78,7 +78,7 @@ writings =
     ∷ []
 
 pub cases : (map (λ c. c .0) reads ≡ map (λ c. c .1) reads) × (map (λ c. c .0) writings ≡ map (λ c. c .1) writings)
-unfolding numberLow same v3 split tag marker firstMarker refused badLength earlyTests readingOf badBody unwritten earlyWriteTests writeTests writingOf runs divided goodHeader goodRecord goodRuns wellFormed bytesLow
+unfolding numberLow same v3 split tag marker firstMarker refused badLength earlyTests readingOf badBody unwritten earlyWriteTests writeTests writingOf runs divided goodHeader goodRecord goodRuns formed distinct wellFormed bytesLow
 cases = (refl, refl)
 
 -- a file that another program saved, under its passphrase "a": with a ceiling equal to ITER and room for its five blocks none of 1 to 7
@@ -91,7 +91,7 @@ abbrev vector : List ℕ
 vector = bytesHigh 16 0x71ad4b31bb6dcb9e373a3943c7e5007e
 
 pub marked : (writes 1024 2048 vector least 232 ≡ 10) × (writes 1024 2048 (zeros 16) least 232 ≡ 0)
-unfolding numberLow bytesLow bytesHigh same v3 marker badBody clear unwritten written earlyWriteTests writeTests writingOf cbc cbcE encrypted xored runs divided goodHeader goodRecord goodRuns wellFormed rotateRight rotateLeft twice times gf rule0 rule1 table0 table1 evens odds boxKey mds y0 y1 y2 y3 h wordA wordB subkey subkeys g whiten F0 F1 round rounds encrypt blockOf blockBytes encryptWords encryptBlock
+unfolding numberLow bytesLow bytesHigh same v3 marker badBody clear unwritten written earlyWriteTests writeTests writingOf cbc cbcE encrypted xored runs divided goodHeader goodRecord goodRuns formed distinct wellFormed rotateRight rotateLeft twice times gf rule0 rule1 table0 table1 evens odds boxKey mds y0 y1 y2 y3 h wordA wordB subkey subkeys g whiten F0 F1 round rounds encrypt blockOf blockBytes encryptWords encryptBlock
 marked = (refl, refl)
 
 -- so there is a safe: the file that these values make

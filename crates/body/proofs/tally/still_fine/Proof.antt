@@ -5,11 +5,11 @@ use borrow.Author.Needs.{needs}
 use Rattle.body.proofs.tally.still_fine.Statement.{statement}
 use Rattle.body.proofs.tally.still_fine.Tie as tie
 
-array-read-result : tie.Need-array-read-result
-array-read-result c = small (c .before .before .before .before .before .before .args .in-record) (c .before .before .before .before .before .before .args .kind) (sym (c .before .before .only-once .ensures) ∙ c .before .if3 .taken)
+is-marked-requires : tie.Need-is-marked-requires
+is-marked-requires c κs = small (c .before .before .before .before .before .args .in-record) (c .before .before .before .before .before .args .kind) (sym (c .before .only-once .ensures) ∙ c .if3 .taken)
 
 returns : tie.Need-returns
-returns c = rw (c .before .before .before .before .before .if1 .taken, ← c .before .before .before .before .length-fits .ensures, c .before .before .before .if2 .taken, ← c .before .before .only-once .ensures, c .before .if3 .taken)
+returns c = rw (c .before .before .before .before .before .if1 .taken, ← c .before .before .before .before .length-fits .ensures, c .before .before .before .if2 .taken, ← c .before .before .only-once .ensures, c .before .if3 .taken, c .is-marked .ensures)
 
 returns-2 : tie.Need-returns-2
 returns-2 c = rw (c .before .before .before .before .if1 .taken, ← c .before .before .before .length-fits .ensures, c .before .before .if2 .taken, ← c .before .only-once .ensures, c .if3 .left)
@@ -23,7 +23,7 @@ still-fine-spec =
     (tie.spec
     (λ c κs. search needs)
     (λ c κs. search needs)
-    array-read-result
+    is-marked-requires
     returns
     returns-2
     returns-3
