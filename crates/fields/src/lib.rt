@@ -58,11 +58,10 @@ pub fn fill_for(len: usize) -> usize
 }
 
 // The bytes that a field with so many bytes of data takes: whole blocks.
-fn room(len: u32) -> usize
+pub fn room(len: u32) -> usize
     ensures { λ r. ⌜ r ≡ roomOf len ⌝ }
 {
-    let n = len as usize;
-    5 + n + fill_for(n)
+    16 * (((len as usize) + 20) / 16)
 }
 
 pub fn end_with_data(kind: u8, len: usize) -> bool

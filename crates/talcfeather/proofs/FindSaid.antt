@@ -4,17 +4,17 @@ use mathlib.Core.Path.{_≡_, refl, sym, ap, _∙_}
 use mathlib.Core.List.{List, [], _∷_, _++_}
 use native.Mathlib.Nat.{mod-eq-of-lt}
 use native.Mathlib.Omega.{arith}
-use lib.ListN.{length, take, drop}
+use lib.ListN.{length, getD, take, drop}
 use Rattle.words.specs.Numbers.{numberLow, bytesLow}
 use Rattle.words.proofs.NumberLaws.{number-bytes}
 use Rattle.fields.specs.Stored.{Stored}
-use Rattle.body.specs.Find.{Says, findNumber, findValues}
+use Rattle.body.specs.Find.{HasUuid, Says, findNumber, findValues}
 use Rattle.body.specs.Visited.{Decides, Visited}
 use Rattle.body.specs.WellFormed.{WellFormed}
 use Rattle.body.specs.declared.Sought.{Sought}
 use Rattle.body.specs.declared.Sought.the-variants.{At, Nowhere, NotWellFormed}
 use Rattle.body.specs.declared.Found.{Found}
-use Rattle.body.proofs.FindCall.{find-says}
+use Rattle.body.proofs.FindCall.{find-says, find-only}
 use Rattle.body.proofs.FindCount.{count-says, count-exactly, count-bound, same-answer}
 use Rattle.talcfeather.specs.Numbers.{withZeros, marked, inBytes}
 use Rattle.talcfeather.specs.Find.{TalcFind, findNumbers, foundOf, toldVisited}
@@ -47,12 +47,20 @@ module _ {body uuid answer : List ℕ} {n : ℕ} (c : TalcFind body uuid n answe
       let small : foundOf body uuid .visited < 2 ^ 64 = omega (arith, few, c .short) in
       ap numberLow (ap (λ (l : List ℕ). take 8 (drop 24 l)) (c .is-answer) ∙ at-24 (foundOf body uuid)) ∙ number-bytes 8 (foundOf body uuid .visited) ∙ mod-eq-of-lt small
 
-  -- Find returns the first record with the UUID (its number from 0 and the place of its first field), "none", or 9.
+  -- Find returns the record with the UUID (its number from 0 and the place of its first field), "none", or 9.
   -- Q10.a "Find shall report how many fields it visited, ENDs included."
   pub find-said : (f : Found) × Says body uuid (f .sought) × Visited body uuid (f .sought) (f .visited)
       × (n ≡ findNumber (f .sought)) × (answer ≡ inBytes (findNumbers f)) × (toldVisited answer ≡ f .visited)
   unfolding foundOf
   find-said = (foundOf body uuid, find-says body uuid _ (c .sized) (refl, c .bytes), counts, c .is-number, c .is-answer, told)
+
+  -- Q7.c "find's answer is the only match, no longer the first": a record that has the UUID is the one that is told, by its number
+  pub only-match : (w : WellFormed body) (i : ℕ) → i < length (w .records) → HasUuid uuid (getD (w .records) i [])
+      → (p v : ℕ) × (n ≡ 0) × (answer ≡ inBytes (1 ∷ i ∷ p ∷ v ∷ []))
+  unfolding foundOf
+  only-match w i l h =
+      let o = find-only body uuid (foundOf body uuid) (c .sized) (refl, c .bytes) w i l h in
+      (o .0, foundOf body uuid .visited, c .is-number ∙ ap findNumber (o .1), c .is-answer ∙ ap (λ (s : Sought). inBytes (withZeros 3 (marked (findValues s)) ++ (foundOf body uuid .visited ∷ []))) (o .1))
 
   -- Q10.a "Let the count be the number of fields from the body's start to the deciding field, it included: the matching UUID, or the last END."
   pub visited-exactly : (w : WellFormed body) (before : List Stored) (f : Stored) (behind : List Stored) → w .fields ≡ before ++ (f ∷ behind)

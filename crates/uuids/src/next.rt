@@ -2,20 +2,12 @@
 ghost use mathlib.Core.Path.{_≡_};
 ghost use mathlib.Core.Bool.{_&&_};
 ghost use lib.Dec.{eqb};
-ghost use Rattle.fields.specs.Stored.{roomOf};
 ghost use Rattle.uuids.specs.Batches.{Stepping};
 
 // The place of a UUID's 16 bytes; or none follows.
 pub enum Next {
     At(usize),
     Over,
-}
-
-// The bytes that a field with so many bytes of data takes.
-fn room(len: u32) -> usize
-    ensures { λ r. ⌜ r ≡ roomOf len ⌝ }
-{
-    16 * (((len as usize) + 20) / 16)
 }
 
 // A field of type 01, with 16 bytes of data.
@@ -38,7 +30,7 @@ pub fn next_uuid(body: &[u8], from: usize) -> Next
             return Next::Over;
         }
         let len = words::numbers::low(body[at], body[at + 1], body[at + 2], body[at + 3]);
-        let room = room(len);
+        let room = fields::room(len);
         if n - at < room {
             return Next::Over;
         }
