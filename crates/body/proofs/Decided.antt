@@ -1,5 +1,5 @@
 -- `wellFormed` holds exactly of the well-formed bodies, and what the HMAC covers and the counts are those of their fields: clause by clause, each test says its clause.
-use Prim.Native.Nat.{ℕ, _-_, _≤_}
+use Prim.Native.Nat.{ℕ, _-_, _<_, _≤_}
 use mathlib.Core.Path.{_≡_, refl, sym, ap, _∙_}
 use mathlib.Core.Logic.{_↔_}
 use mathlib.Core.Bool.{Bool, true, false, cond, not, _&&_, false≢true}
@@ -14,6 +14,7 @@ use Rattle.words.proofs.EachLaws.{both, and, equal, at-most, each, where-equal}
 use Rattle.words.specs.Numbers.{Bytes}
 use Rattle.fields.specs.Stored.{Stored}
 use Rattle.fields.specs.Walk.{endWithData}
+use Rattle.body.specs.Division.{Divides}
 use Rattle.body.specs.Sections.{runs, count, covered}
 use Rattle.body.specs.WellFormed.{VersionFirst, onceInHeader, One, GoodRecord, uuidOf, WellFormed}
 use Rattle.body.specs.Decision.{fieldsOf, walkable, exactFrom, endsEmpty, versionFirst, one, goodHeader, goodRecord, none, goodRuns, formed, distinct, wellFormed, headerIn, recordsIn, headersOf, recordsOf, coveredOf}
@@ -161,6 +162,14 @@ module _ (s : List ℕ) where
 
   pub records-are : (w : WellFormed s) → recordsIn (runs (fieldsOf s)) ≡ w .records
   records-are w = in-sections (w .header) (w .records) (runs (fieldsOf s)) (runs-are w)
+
+  -- a body in which two records have one UUID is not well formed
+  pub two-with-one : (fs h : List Stored) (rs : List (List Stored)) → Divides s fs → runs fs ≡ h ∷ (rs ++ ([] ∷ [])) → (i j : ℕ) → i < j → j < length rs
+      → uuidOf (getD rs i []) ≡ uuidOf (getD rs j []) → WellFormed s → ⊥
+  two-with-one fs h rs d e i j l k u w =
+      let same : rs ≡ w .records = sym (in-sections h rs (runs (fieldsOf s)) (ap runs (division s fs d) ∙ e)) ∙ records-are w in
+      w .uuids i j l (omega (arith, ap length same))
+      (ap (λ (x : List (List Stored)). uuidOf (getD x i [])) (sym same) ∙ u ∙ ap (λ (x : List (List Stored)). uuidOf (getD x j [])) same)
 
   pub counts-are : (w : WellFormed s) → (headersOf s ≡ length (w .header)) × (recordsOf s ≡ length (w .records))
   counts-are w = (ap length (header-is w), ap length (records-are w))

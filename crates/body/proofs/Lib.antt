@@ -8,7 +8,7 @@ mod OnceTypes
 mod Verdict
 pub mod Along
 pub mod Sectioned
-mod UuidsAhead
+pub mod UuidsAhead
 mod Judging
 pub mod Ahead
 mod Keeps

@@ -1,25 +1,25 @@
 -- Behind the header the UUIDs that stand there are those of the records: the fields that follow one another are those that the walk takes, ENDs part them into records, and each has one UUID.
-use Prim.Native.Nat.{ℕ, _+_, _≤_, _<_}
-use mathlib.Core.Path.{_≡_, refl, sym, ap, ap₂, _∙_}
-use mathlib.Core.Bool.{Bool, true, false, cond, _&&_, _||_}
+use Prim.Native.Nat.{ℕ, _+_}
+use mathlib.Core.Path.{_≡_, refl, sym, ap, ap₂, _∙_, subst}
+use mathlib.Core.Bool.{Bool, true, false, cond, _&&_}
 use mathlib.Core.List.{List, [], _∷_, _++_, map}
-use native.Mathlib.Nat.{add-zero}
 use native.Mathlib.Omega.{arith}
 use lib.Dec.{eqb}
-use lib.ListN.{length, take, drop, length-append}
-use borrow.Author.Tests.{eqb-true, eq-eqb, ne-eqb}
+use lib.ListN.{length, length-append}
+use borrow.Author.Tests.{eqb-true, eq-eqb}
 use Rattle.words.specs.Each.{Each}
 use Rattle.fields.specs.Stored.{Stored, roomOf, bytesOf}
-use Rattle.fields.specs.Walk.{lenAt, kindAt, dataAt}
-use Rattle.uuids.specs.Uuids.{isUuidAt, uuidsFrom}
+use Rattle.fields.specs.Walk.{lenAt, dataAt}
+use Rattle.uuids.specs.Uuids.{isUuidAt, uuidsFrom, Repeats}
+use Rattle.uuids.specs.declared.Repeat.{Repeat}
 use Rattle.uuids.proofs.Steps.{none-fits, fits}
 use Rattle.body.specs.Division.{joined}
 use Rattle.body.specs.Sections.{isEnd, push, runs, count, firstData}
 use Rattle.body.specs.WellFormed.{GoodRecord, uuidOf}
-use Rattle.body.specs.Decision.{storedAt, fieldsOf, takenFrom, formed, recordsIn}
+use Rattle.body.specs.Decision.{fieldsOf, takenFrom, formed, recordsIn}
 use Rattle.body.specs.RecordAt.{recordAt}
 use Rattle.body.proofs.Verdict.{some-run}
-use Rattle.body.proofs.Sectioned.{Next, taken-next, Left, left-start, left-turn, good-start}
+use Rattle.body.proofs.Sectioned.{taken-next, left-start, left-turn, good-start}
 
 -- the data of those of the fields that are UUIDs
 abbrev isId : Stored → Bool
@@ -91,3 +91,7 @@ uuids-ahead s h =
     ∙ ids-runs (takenFrom s (recordAt s 0 .next))
     ∙ ap all-ids (l .parted)
     ∙ ids-records (recordsIn (runs (fieldsOf s))) (good-start s h)
+
+-- a call of `uuids::repeated` behind the header, taken by its contract: the answer is the first record whose UUID an earlier record has, or no two have the same
+pub first-repeated : (s : List ℕ) (r : Repeat) → formed s ≡ true → Repeats (uuidsFrom s (recordAt s 0 .next)) r → Repeats (map uuidOf (recordsIn (runs (fieldsOf s)))) r
+first-repeated s r h x = subst (λ (us : List (List ℕ)). Repeats us r) (uuids-ahead s h) x

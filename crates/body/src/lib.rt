@@ -1,4 +1,4 @@
-// The well-formed body: judging it, and finding a record in it. Both go by the one walk.
+// The well-formed body: judging it, and finding a record in it. Both go by the one walk; whether a UUID comes twice is asked of uuids.
 use fields::Stepped;
 use uuids::Repeat;
 

@@ -1,4 +1,4 @@
-// The first record with a UUID, and how many fields were visited.
+// The record with a UUID, and how many fields were visited.
 use super::numbers::store;
 use body::Found;
 use body::Sought;

@@ -3,7 +3,7 @@ use Prim.Native.Nat.{ℕ, _+_, _-_, _≤_, _<_}
 use mathlib.Core.Path.{_≡_, refl, sym, ap, _∙_, subst}
 use mathlib.Core.Bool.{Bool, true, false, cond}
 use mathlib.Core.Logic.{⊎-elim}
-use mathlib.Core.List.{List, [], _∷_}
+use mathlib.Core.List.{List, []}
 use native.Mathlib.Nat.{eq-or-lt-of-le}
 use native.Mathlib.Omega.{arith}
 use lib.Dec.{ltb}
@@ -12,8 +12,7 @@ use lib.Seq.{getD-drop, drop-drop}
 use borrow.Author.Tests.{ltb-true, ltb-false}
 use Rattle.words.proofs.Either.{lt-or-ge}
 use Rattle.uuids.specs.Uuids.{uuidsFrom, Again, Repeats}
-use Rattle.uuids.specs.Table.{idAt}
-use Rattle.uuids.specs.Batches.{Found, Best, batchOf, Passing, answerOf}
+use Rattle.uuids.specs.Batches.{NextAt, Best, batchOf, Passing, answerOf}
 use Rattle.uuids.specs.declared.Repeat.the-variants.{At, Nothing}
 use Rattle.uuids.specs.declared.batch.Went.{Went}
 use Rattle.uuids.proofs.Steps.{few}
@@ -81,7 +80,7 @@ module _ (s : List ℕ) (from at h b : ℕ) (x : Batches s from at h b) where
       told (uuidsFrom s from) (length s) b (few s from)
       (λ i j p q l z. x .standing .none i j p q l (omega (arith, simp length-drop at (ap length (sym (x .rest) ∙ e)))) z) (x .standing .hit)
 
-  module _ (p : ℕ) (f : Found s at p) (w : Went) (y : Passing s p h b w) where
+  module _ (p : ℕ) (f : NextAt s at p) (w : Went) (y : Passing s p h b w) where
     same : batchOf s p ≡ drop h (uuidsFrom s from)
     same = sym (f .next) ∙ x .rest
 

@@ -3,3 +3,4 @@ mod Same
 mod Members
 mod Passes
 mod Batches
+pub mod OneAnswer

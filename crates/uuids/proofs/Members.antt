@@ -11,7 +11,6 @@ use lib.Seq.{getD-set-same, getD-set-other}
 use Rattle.words.proofs.Either.{lt-or-ge, eq-or-ne}
 use Rattle.uuids.specs.Table.{Tells, idAt, startOf, placeOf, Taken, Holds, Other, Fits, Looks}
 use Rattle.uuids.specs.Batches.{Empty}
-use Rattle.uuids.specs.declared.table.Look.{Look}
 use Rattle.uuids.specs.declared.table.Look.the-variants.{Known, Free, Full}
 
 -- a look-up has come to slot i: all before it, from the start on, are another's

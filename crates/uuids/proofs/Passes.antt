@@ -11,17 +11,16 @@ use types.Run.{OneOf}
 use denote.Enum.Declared.{tagOf}
 use Rattle.uuids.specs.Uuids.{uuidsFrom}
 use Rattle.uuids.specs.Table.{idAt, startOf, placeOf, Looks, TakenIn}
-use Rattle.uuids.specs.Batches.{Found, Stepping, Empty, Best, batchOf, Passing, wentTo}
+use Rattle.uuids.specs.Batches.{NextAt, Stepping, Empty, Best, batchOf, Passing, wentTo}
 use Rattle.uuids.specs.declared.next.Next.{Next}
 use Rattle.uuids.specs.declared.next.Next.the-variants as Next
 use Rattle.uuids.specs.declared.table.Look.{Look}
 use Rattle.uuids.specs.declared.table.Look.the-variants.{Known, Free, Full}
-use Rattle.uuids.specs.declared.batch.Went.{Went}
 use Rattle.uuids.proofs.table.Look as looks
 use Rattle.uuids.proofs.Members.{Table, table-start, table-more, is-known, not-free, not-full}
 
 -- what the search for the next UUID said
-pub found : (s : List ℕ) (at : ℕ) (w : Next) (p : ℕ) → Stepping s at w → w ≡ Next.At p → Found s at p
+pub found : (s : List ℕ) (at : ℕ) (w : Next) (p : ℕ) → Stepping s at w → w ≡ Next.At p → NextAt s at p
 found s at w p t e = subst (Stepping s at) e t
 
 pub over : (s : List ℕ) (at : ℕ) (w : Next) → Stepping s at w → w ≡ Next.Over → uuidsFrom s at ≡ []
@@ -94,7 +93,7 @@ module _ (s : List ℕ) (base number limit : ℕ) (slots : List ℕ) (at n : ℕ
     hit = λ h. absurd (omega arith);
   })
 
-  module _ (p : ℕ) (f : Found s at p) where
+  module _ (p : ℕ) (f : NextAt s at p) where
     here : (x .i < length us) × (getD us (x .i) [] ≡ idAt s p) × (drop (suc (x .i)) us ≡ uuidsFrom s (p + 27))
     here = uncons us (x .i) (idAt s p) (uuidsFrom s (p + 27)) (sym (x .rest) ∙ f .next)
 

@@ -14,7 +14,7 @@ use Rattle.fields.specs.Stored.{roomOf}
 use Rattle.fields.specs.Walk.{lenAt, kindAt, dataAt}
 use Rattle.uuids.specs.Uuids.{isUuidAt, uuidsAmong, uuidsFrom}
 use Rattle.uuids.specs.Table.{idAt}
-use Rattle.uuids.specs.Batches.{Found}
+use Rattle.uuids.specs.Batches.{NextAt}
 
 -- the place after the field at p
 abbrev after : List ℕ → ℕ → ℕ
@@ -96,7 +96,7 @@ module _ (s : List ℕ) (from at : ℕ) (x : Seeks s from at) where
   seeks-over h = x .same ∙ none-fits s at h
 
   module _ (h : at + roomOf (lenAt s at) ≤ length s) where
-    pub seeks-hit : isUuidAt s at ≡ true → Found s from (at + 5)
+    pub seeks-hit : isUuidAt s at ≡ true → NextAt s from (at + 5)
     seeks-hit u =
         let r : roomOf (lenAt s at) ≡ 32 = ap roomOf (sixteen s at u) in
         record { next = x .same ∙ comes-first s at h u; blocks = x .blocks; on = omega (arith, x .on); within = omega arith }

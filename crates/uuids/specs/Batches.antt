@@ -14,14 +14,14 @@ use Rattle.uuids.specs.declared.next.Next.the-variants as Next
 use Rattle.uuids.specs.declared.batch.Went.{Went}
 
 -- the next UUID stands at p, some blocks on; its field ends 27 bytes further
-pub record Found (s : List ℕ) (from p : ℕ) : Type 0 where
+pub record NextAt (s : List ℕ) (from p : ℕ) : Type 0 where
   pub next : uuidsFrom s from ≡ idAt s p ∷ uuidsFrom s (p + 27)
   pub blocks : ℕ
   pub on : p ≡ from + 5 + 16 * blocks
   pub within : p + 27 ≤ length s
 
 abbrev pub Stepping : List ℕ → ℕ → Next → Type 0
-Stepping s from (Next.At p) = Found s from p
+Stepping s from (Next.At p) = NextAt s from p
 Stepping s from Next.Over = uuidsFrom s from ≡ []
 
 -- no slot is taken

@@ -1,4 +1,4 @@
-// One batch: records from a place on become members, as long as there is room, and every later one is tried against them.
+// One batch: UUIDs from a place on become members, as long as there is room, and every later one is tried against them.
 use super::next::Next;
 use super::next::next_uuid;
 use super::table::Look;
@@ -7,10 +7,10 @@ use super::table::start;
 use super::table::take_in;
 ghost use mathlib.Core.Path.{_≡_};
 ghost use Prim.Native.Nat.{_+_, _≤_, _<_};
-ghost use lib.ListN.{length, getD};
+ghost use lib.ListN.{length};
 ghost use Rattle.uuids.specs.Batches.{Empty, Passing, wentTo};
 
-// The first number below the limit whose UUID a member has, else the limit; where the first record stands that is no member; and how many are.
+// The first number below the limit whose UUID a member has, else the limit; the place behind the last member's field; how many members there are.
 pub struct Went {
     pub best: usize,
     pub next: usize,
@@ -33,7 +33,7 @@ fn no_members() -> [u16; 26624]
     [0u16; 26624]
 }
 
-// The batch that begins with the UUID at base, of the record of this number.
+// The batch that begins with the UUID at base, which has this number.
 fn pass(body: &[u8], base: usize, number: usize, limit: usize, slots: &mut [u16]) -> Went
     requires { ⌜ (base + 27 ≤ length (now body)) × (number < limit) × Empty (now slots) ⌝ }
     ensures { λ r. ⌜ Passing (now (body .entry)) base number limit r ⌝ }

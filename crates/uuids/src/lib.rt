@@ -1,4 +1,4 @@
-// Whether a UUID comes twice: the first record whose UUID an earlier one has.
+// Whether a UUID comes twice: the first one, from a place on, that an earlier one is the same as.
 use batch::batch;
 use next::Next;
 use next::next_uuid;
@@ -8,17 +8,16 @@ mod next;
 mod table;
 
 ghost use mathlib.Core.Path.{_≡_};
-ghost use lib.ListN.{length};
 ghost use Rattle.uuids.specs.Uuids.{uuidsFrom, Repeats};
 ghost use Rattle.uuids.specs.Batches.{answerOf};
 
-// The number of a record, or that no two have the same UUID.
+// The number of a UUID, from 0, among those from the place on; or no two are the same.
 pub enum Repeat {
     At(usize),
     Nothing,
 }
 
-// A number below that of the bytes is a record's.
+// The number of bytes stands for none: no UUID has it.
 fn answer(best: usize, none: usize) -> Repeat
     ensures { λ r. ⌜ r ≡ answerOf best none ⌝ }
 {
@@ -28,7 +27,7 @@ fn answer(best: usize, none: usize) -> Repeat
     Repeat::Nothing
 }
 
-// The first UUID from a place on that an earlier one is the same as: batch by batch, each tried against all that come later.
+// Batch by batch: each is tried against all that come later, as far as the best answer so far.
 pub fn repeated(body: &[u8], from: usize) -> Repeat
     ensures { λ r. ⌜ Repeats (uuidsFrom (now (body .entry)) from) r ⌝ }
 {

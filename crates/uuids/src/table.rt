@@ -1,9 +1,10 @@
-// The members of a batch in an open table: the slot of a UUID is the first free one, from where its bytes say on. A slot holds 0, or how many blocks behind the first member of the batch its member stands, and one more.
+// The members of a batch in an open table: a UUID takes the first free slot from where its bytes say on.
+// A slot holds 0 where it is free, else one more than the blocks from the first member to its own.
 ghost use mathlib.Core.Path.{_≡_};
 ghost use Prim.Native.Nat.{_+_, _≤_, _<_};
 ghost use lib.ListN.{length, take, drop};
 ghost use Rattle.words.specs.Numbers.{numberLow};
-ghost use Rattle.uuids.specs.Table.{idAt, placeOf, startOf, Tells, Fits, Looks, TakenIn};
+ghost use Rattle.uuids.specs.Table.{idAt, startOf, Tells, Fits, Looks, TakenIn};
 
 // A member has these 16 bytes; or none has, and this slot is free for them, or no slot is.
 pub enum Look {

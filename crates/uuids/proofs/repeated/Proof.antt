@@ -1,6 +1,5 @@
 -- `uuids::repeated` meets its contract: the loop keeps what the batches so far have come to (Batches), and each batch has a member.
 use Prim.Native.Nat.{_-_}
-use mathlib.Core.Path.{sym, _∙_}
 use native.Mathlib.Omega.{arith}
 use Rattle.uuids.proofs.Passes.{found, over}
 use Rattle.uuids.proofs.Batches.{Batches, batches-start, batches-over, batches-end, batches-next, batches-room}

@@ -1,5 +1,4 @@
 -- `body::tally::with_mark` meets its contract: the bit of a type stands in the word.
-use Prim.Native.Nat.{ℕ}
 use mathlib.Core.Path.{ap}
 use lib.Bits.{bitOr}
 use Rattle.body.proofs.Marks.{one-bit}

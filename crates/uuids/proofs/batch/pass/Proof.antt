@@ -1,9 +1,8 @@
 -- `uuids::batch::pass` meets its contract: the loop keeps what a batch has come to (Passes), and the number grows at each turn.
 use Prim.Native.Nat.{_-_}
-use mathlib.Core.Path.{sym, ap, _∙_, subst}
+use mathlib.Core.Path.{sym, _∙_, subst}
 use native.Mathlib.Omega.{arith}
-use Rattle.uuids.specs.Table.{Looks, idAt}
-use Rattle.uuids.specs.Batches.{Passing}
+use Rattle.uuids.specs.Table.{Looks}
 use Rattle.uuids.proofs.Passes.{Passes, passes-start, passes-over, passes-end, passes-known, passes-by, passes-in, found, over}
 use borrow.Author.Needs.{needs}
 use Rattle.uuids.proofs.batch.pass.Statement.{statement}

@@ -1,6 +1,6 @@
 -- `uuids::next::next_uuid` meets its contract: the loop keeps that no UUID was passed (Seeks), and the place grows at each turn.
 use Prim.Native.Nat.{_-_}
-use mathlib.Core.Path.{sym, ap, _∙_, subst}
+use mathlib.Core.Path.{ap, _∙_}
 use native.Mathlib.Omega.{arith}
 use lib.ListN.{length}
 use Rattle.fields.specs.Stored.{roomOf}

@@ -1,8 +1,6 @@
 -- `uuids::table::look_up` meets its contract: the loop keeps that all slots before, from the start on, are another's (Seen).
 use Prim.Native.Nat.{_-_}
-use mathlib.Core.Path.{sym, ap, _∙_, subst}
 use native.Mathlib.Omega.{arith}
-use lib.ListN.{getD}
 use Rattle.uuids.specs.Table.{idAt}
 use Rattle.uuids.proofs.Members.{Seen, seen-start, seen-free, seen-known, seen-next, seen-full}
 use borrow.Author.Needs.{needs}

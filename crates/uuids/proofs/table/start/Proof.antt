@@ -1,6 +1,5 @@
 -- `uuids::table::start` meets its contract: the four words that are read are those of the 16 bytes, and what is less than 2^32 gives a slot below 24,576.
 use native.Mathlib.Omega.{arith}
-use mathlib.Core.Path.{sym, ap, _∙_}
 use Rattle.uuids.proofs.Same.{start-read}
 use borrow.Author.Needs.{needs}
 use Rattle.uuids.proofs.table.start.Statement.{statement}
