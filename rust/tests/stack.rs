@@ -112,8 +112,8 @@ fn read_uses(file: &[u8], number: u32) {
     assert!(used <= JUDGING, "{used} bytes");
 }
 
-/// Bodies without a record, with few, with more than one row of the table holds, and with as many that
-/// are looked up from its last slot on.
+/// Bodies without a record, with few, with more than the table takes in at once, and with more than it
+/// has room for from its last start on.
 fn bodies(random: &mut Random) -> Vec<Vec<u8>> {
     let few: Vec<Uuid> = (0..3).map(counted).collect();
     let many: Vec<Uuid> = (0..14_000).map(counted).collect();

@@ -33,7 +33,7 @@ pub fn sorted(number: u32) -> Uuid {
 fn start(uuid: &Uuid) -> u32 {
     let word = |i: usize| u32::from_le_bytes(uuid[4 * i..4 * i + 4].try_into().unwrap());
     let sum = (0..4).fold(0u32, |sum, i| sum.wrapping_add(word(i).wrapping_mul(2 * i as u32 + 1)));
-    (u64::from(sum.wrapping_mul(2_654_435_769)) * 24_576 >> 32) as u32
+    ((u64::from(sum.wrapping_mul(2_654_435_769)) * 24_576) >> 32) as u32
 }
 
 /// A random one of the UUIDs of which the look-up starts at that slot.
