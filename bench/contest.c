@@ -29,7 +29,7 @@ static void run_once(struct contest *contest, struct contender *c, uint8_t first
     }
 }
 
-void contest_hold(struct contest *contest)
+void contest_time(struct contest *contest)
 {
     uint8_t first[OUTCOME];
     struct contender *all = contest->contenders;
@@ -38,6 +38,12 @@ void contest_hold(struct contest *contest)
     for (int round = 0; round < contest->rounds; round++)
         for (int i = 0; i < CONTENDERS && all[i].name != NULL; i++)
             run_once(contest, &all[i], first);
+}
+
+void contest_hold(struct contest *contest)
+{
+    const struct contender *all = contest->contenders;
+    contest_time(contest);
     printf("\n%s\n", contest->title);
     for (int i = 0; i < CONTENDERS && all[i].name != NULL; i++)
         printf("  %-28s %12.3f %-6s  %6.2f\n", all[i].name, contest->work / all[i].seconds,

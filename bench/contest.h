@@ -23,7 +23,10 @@ struct contest {
     struct contender contenders[CONTENDERS]; /* the proved code first, then until no name */
 };
 
-/* Runs all rounds and prints a line for each contender; ends the program if outcomes differ. */
+/* Runs all rounds; ends the program if outcomes differ. */
+void contest_time(struct contest *contest);
+
+/* The same, and prints a line for each contender. */
 void contest_hold(struct contest *contest);
 
 /* Writes the picture: each contender's speed as a multiple of the proved code's. */

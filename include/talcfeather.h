@@ -66,8 +66,22 @@
  * more records, each ending at an END, and nothing after the last; header
  * types 00 to 0b, 0f, 10 and 13 occur at most once; each record has exactly
  * one UUID (01) of 16 bytes, one Title (03) and one Password (06) of at
- * least 1 byte each. Unknown types are kept, and so are other known types
- * with an unexpected length.
+ * least 1 byte each; no two records have the same UUID, byte for byte.
+ * Unknown types are kept, and so are other known types with an unexpected
+ * length. The header's own UUID is no record's, and a record may have it.
+ *
+ * ------------------------------------------------------------------------
+ * Judging
+ *
+ * talc_judge() says whether a body is well formed, and talc_read(),
+ * talc_write(), talc_find() and talc_export() judge it before they go on.
+ * They look up its UUIDs in a table on the stack: each of these calls uses up
+ * to 60 KB of stack, whatever the body's length. A test holds them to 64 KB.
+ *
+ * For n records, at most n * (n - 1) / 2 pairs of UUIDs are compared, whatever
+ * the UUIDs are; ordinary ones, random or counted up, need a few compares
+ * each. For the 52,425 records that the longest file can hold, UUIDs that were
+ * chosen to collide cost some seconds at most, and change no answer.
  */
 #ifndef TALCFEATHER_H
 #define TALCFEATHER_H
@@ -86,8 +100,13 @@ extern "C" {
  * program with the header that came with its archive. Nothing checks this: a
  * program compiled with the header of version 1 lends talc_find() 24 bytes, and
  * 32 are written.
+ *
+ * 2: talc_find() counts the fields that it visits.
+ * 3: two records with the same UUID are 9 wherever a body is judged; before,
+ *    they were accepted, and talc_find() found the first. Judging takes more
+ *    stack.
  */
-#define TALC_VERSION 2
+#define TALC_VERSION 3
 
 /* Refusals, and the calls that give them. */
 #define TALC_OK            0  /* not refused */
@@ -202,8 +221,8 @@ static inline uint64_t talc_number(const uint8_t *p)
  * The HMAC covers the data of all fields and neither their types, lengths
  * nor fill: an accepted file is not proved to be the file that was saved.
  * The time taken grows with ITER up to `ceiling`; 1 to 7 come before any
- * stretching. The caller wipes workspace and answer when done with them. A
- * test holds the call to 16 KB of stack.
+ * stretching. The caller wipes workspace and answer when done with them. Time
+ * and stack of judging are said above.
  */
 uint32_t talc_read(const uint8_t *file, size_t file_len,
                    const uint8_t *passphrase, size_t passphrase_len,
@@ -228,7 +247,7 @@ uint32_t talc_read(const uint8_t *file, size_t file_len,
  *
  * Accepted (0): the output holds the file (body_len + 200 bytes), then zeros
  * to its end.
- * Refused: the whole output is zero. A test holds the call to 16 KB of stack.
+ * Refused: the whole output is zero. Time and stack of judging are said above.
  */
 uint32_t talc_write(const uint8_t *passphrase, size_t passphrase_len,
                     const uint8_t salt[32], uint32_t iter,
@@ -325,16 +344,18 @@ uint32_t talc_append(uint8_t *buffer, size_t buffer_len,
  *    0  number of header fields, the END not counted
  *    8  number of records
  *
- * Refused: the answer is zero. Nothing else is written.
+ * Refused: the answer is zero. Nothing else is written. Time and stack are said
+ * above, under "Judging".
  */
 uint32_t talc_judge(const uint8_t *body, size_t body_len,
                     uint8_t answer[TALC_JUDGE_ANSWER]);
 
 /*
- * Finds the first record whose UUID is these 16 bytes, as they are stored, and
- * counts the fields that it visits.
+ * Finds the record whose UUID is these 16 bytes, as they are stored, and counts
+ * the fields that it visits. A well-formed body has one such record at most.
  *
- * Refusal: 9, when the body is not well formed.
+ * Refusal: 9, when the body is not well formed: so also when two of its records
+ * have the same UUID, be it these 16 bytes or others.
  *
  * The answer, four numbers by offset:
  *    0  1 if there is one, else 0
@@ -345,7 +366,7 @@ uint32_t talc_judge(const uint8_t *body, size_t body_len,
  *       decides, or the last END where there is none.
  *
  * The number at 24 is at most body_len / 16. The test that the body is well
- * formed is not counted.
+ * formed is not counted; its time and stack are said above, under "Judging".
  *
  * None: the numbers at 0, 8 and 16 are 0; the one at 24 is that of all fields
  * of the body. Refused: the answer is zero. Nothing else is written.
@@ -442,7 +463,7 @@ uint32_t talc_standing(const uint8_t *state, size_t state_len,
  * Refused: the output is unchanged. For 9 and 3 the answer is zero; for 18 the
  * number at 0 is 0.
  *
- * The output must not overlap the body. A test holds the call to 16 KB of stack.
+ * The output must not overlap the body. Time and stack of judging are said above.
  */
 uint32_t talc_export(const uint8_t *body, size_t body_len,
                      uint32_t now,

@@ -32,7 +32,8 @@ pub struct Search {
     pub visited: u64,
 }
 
-/// The counts of a well-formed body; [`Refusal::Body`] for any other.
+/// The counts of a well-formed body; [`Refusal::Body`] for any other. No two records of a
+/// well-formed body have the same UUID.
 ///
 /// ```
 /// let body = *b"\x02\0\0\0\0\x0e\x03.........\0\0\0\0\xff...........";
@@ -49,14 +50,42 @@ pub fn judge(body: &[u8]) -> Result<Counts, Refusal> {
     Ok(Counts { header_fields, records })
 }
 
-/// The first record whose UUID is these 16 bytes, as they are stored, or none; and how many fields
-/// were visited.
+/// The record whose UUID is these 16 bytes, as they are stored, or none; and how many fields were
+/// visited. It is the only one: a body in which two records have the same UUID is refused, whatever
+/// is sought, as every body that is not well formed.
 ///
 /// ```
 /// use talcfeather::{find, Search};
 ///
 /// let body = *b"\x02\0\0\0\0\x0e\x03.........\0\0\0\0\xff...........";
 /// assert_eq!(find(&body, &[7; 16]), Ok(Search { found: None, visited: 2 }));
+/// ```
+///
+/// ```
+/// use talcfeather::{append, fill_needed, find, Found, Refusal, Search, END};
+///
+/// fn body_of(uuids: [[u8; 16]; 2]) -> Result<[u8; 192], Refusal> {
+///     let (mut body, mut place) = ([0; 192], 0);
+///     let mut add = |kind: u8, data: &[u8]| {
+///         place = append(&mut body, place, kind, data, &[0; 15][..fill_needed(data.len())])?;
+///         Ok(())
+///     };
+///     add(0x00, &[0x0e, 0x03])?;
+///     add(END, b"")?;
+///     for uuid in uuids {
+///         add(0x01, &uuid)?;
+///         add(0x03, b"Lathe")?;
+///         add(0x06, b"x")?;
+///         add(END, b"")?;
+///     }
+///     Ok(body)
+/// }
+///
+/// let second = Found { record: 1, place: 112 };
+/// let search = Search { found: Some(second), visited: 7 };
+/// assert_eq!(find(&body_of([[7; 16], [8; 16]])?, &[8; 16]), Ok(search));
+/// assert_eq!(find(&body_of([[8; 16], [8; 16]])?, &[8; 16]), Err(Refusal::Body));
+/// # Ok::<(), Refusal>(())
 /// ```
 pub fn find(body: &[u8], uuid: &[u8; 16]) -> Result<Search, Refusal> {
     let mut answer = [0u8; 32];

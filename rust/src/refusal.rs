@@ -37,7 +37,8 @@ pub enum Refusal {
     Marker,
     /// 8: not the passphrase of this file.
     Wrong,
-    /// 9: the body is not well formed, or (reading) the HMAC differs.
+    /// 9: the body is not well formed, as where two records have the same UUID, or (reading) the
+    /// HMAC differs.
     Body,
     /// 10: an encrypted block equals the marker.
     Collision,

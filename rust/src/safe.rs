@@ -82,7 +82,7 @@ pub fn read<'w>(
 ///
 /// The ceiling is the largest ITER that is worth waiting for. The workspace needs
 /// [`AROUND`] bytes less than the file. Accepted, it holds the body and zeros after it;
-/// refused, it is zero.
+/// refused, it is zero. A body in which two records have the same UUID is [`Refusal::Body`].
 ///
 /// ```
 /// let mut workspace = [1u8; 8];
@@ -121,7 +121,8 @@ pub fn read_counted<'w>(
 }
 
 /// Writes a whole file into the output and answers its length: [`AROUND`] bytes more than the
-/// body. Zeros follow it; refused, the whole output is zero.
+/// body. Zeros follow it; refused, the whole output is zero. A body in which two records have the
+/// same UUID is [`Refusal::Body`].
 ///
 /// ```
 /// use talcfeather::{write, Parts, Refusal};

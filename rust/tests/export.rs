@@ -3,10 +3,11 @@
 
 mod common;
 
-use common::bodies::{damage, data, field, join, part, Part};
+use common::bodies::{damage, data, join, part, Part};
 use common::calls::*;
 use common::tables::*;
-use common::traces::shuffle;
+use common::traces::{counted, shuffle, Uuid};
+use common::uuids::{body_with, MOST_RECORDS};
 use peer::fields::END;
 use peer::random::Random;
 use peer::table::days;
@@ -286,7 +287,7 @@ fn the_first_of_a_type() {
 }
 
 /// A login whose fields of these types are at fault, in any order.
-fn at_fault(random: &mut Random, faults: &[u8]) -> Vec<Part> {
+fn at_fault(random: &mut Random, uuid: &[u8; 16], faults: &[u8]) -> Vec<Part> {
     let fields = [TITLE, USER, GROUP, EXPIRY].map(|kind| {
         let bad = match random.below(3) {
             _ if kind == EXPIRY => vec![0; 5],
@@ -299,7 +300,7 @@ fn at_fault(random: &mut Random, faults: &[u8]) -> Vec<Part> {
     });
     let mut fields = fields.to_vec();
     shuffle(random, &mut fields);
-    login(&[7; 16], &fields)
+    login(uuid, &fields)
 }
 
 /// Every set of faults in three records: the first record counts, and in it the first column.
@@ -312,7 +313,8 @@ fn the_first_of_several_faults() {
             let those = (0..4).filter(|i| set >> (record + i) & 1 == 1);
             those.map(|i| order[i]).collect::<Vec<u8>>()
         });
-        let records = faults.clone().map(|faults| at_fault(random, &faults));
+        let records =
+            [0, 1, 2].map(|number| at_fault(random, &[number; 16], &faults[number as usize]));
         let body = body_of(random, &records);
         let ours = exported(random, &body, NOW, 768);
         match faults.iter().position(|faults| !faults.is_empty()) {
@@ -327,7 +329,7 @@ fn the_first_of_several_faults() {
 fn the_order_of_refusals() {
     let random = &mut Random(13);
     let good = [login(&[1; 16], &[]), login(&[2; 16], &[]), login(&[3; 16], &[])];
-    let bad = [good[0].clone(), good[1].clone(), at_fault(random, &[EXPIRY])];
+    let bad = [good[0].clone(), good[1].clone(), at_fault(random, &[7; 16], &[EXPIRY])];
     for room in [0, 1, 255, 256, 511, 512, 767, 768, 769, 1024] {
         let body = body_of(random, &bad);
         refused_at(&exported(random, &body, NOW, room), 2, EXPIRY);
@@ -357,7 +359,7 @@ fn bytes_of_the_output() {
             assert!(ours.memory[..256 * count] == table);
             assert!(ours.memory[256 * count..] == output[256 * count..], "beyond the table");
             // The last login is at fault, after all that could have been written before it.
-            records.push(at_fault(random, &[GROUP]));
+            records.push(at_fault(random, &[7; 16], &[GROUP]));
             let body = body_of(random, &records);
             let ours = Export { body: &body, now: NOW, output: &output }.ours(random);
             refused_at(&ours, count as u64, GROUP);
@@ -386,6 +388,9 @@ fn bodies_that_are_not_well_formed() {
         let body = body_of(random, &[record]);
         assert_eq!(exported(random, &body, NOW, 256).number, 9);
     }
+    let one_uuid =
+        body_of(random, &[login(&[1; 16], &[]), login(&[2; 16], &[]), login(&[1; 16], &[])]);
+    assert_eq!(exported(random, &one_uuid, NOW, 768).number, 9);
     for doubled in [part(0x01, &[1; 16]), part(0x03, b"t"), part(0x06, b"p")] {
         let mut record = login(&[1; 16], &[]);
         record.insert(1, doubled);
@@ -487,18 +492,13 @@ fn nothing_else_leaves() {
 #[test]
 fn a_long_body() {
     let random = &mut Random(19);
-    let record: Vec<u8> =
-        [part(0x01, &[5; 16]), part(TITLE, b"t"), part(0x06, b"p"), part(END, &[])]
-            .iter()
-            .flat_map(|part| field(random, part))
-            .collect();
-    let header = join(random, &[part(0x00, &[0x0e, 0x03]), part(END, &[])]);
-    let count = (4_194_096 - header.len()) / record.len();
-    assert_eq!((record.len(), count), (80, 52_425));
-    let body = [header, record.repeat(count)].concat();
+    let uuids: Vec<Uuid> = (0..MOST_RECORDS).map(counted).collect();
+    let (body, count) = (body_with(random, &uuids), uuids.len());
+    assert_eq!((body.len(), count), (4_194_032, 52_425));
     let ours = exported(random, &body, NOW, 256 * count);
     assert_eq!((ours.number, numbers(&ours)), (0, vec![count as u64, 0, 0]));
-    assert!(ours.memory == stored(&[5; 16], [b"t", b"", b""], NEVER).repeat(count));
+    let row = |uuid| stored(uuid, [b"t", b"", b""], NEVER);
+    assert!(ours.memory == uuids.iter().map(row).collect::<Vec<_>>().concat());
     assert_eq!(exported(random, &body, NOW, 256 * count - 1).number, 3);
     let bad = login(&[6; 16], &[part(GROUP, &[b'n'; 73])]);
     let longer = [body, join(random, &bad)].concat();

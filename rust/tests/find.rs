@@ -6,7 +6,7 @@ mod common;
 use common::bodies::{data, good, join, part, record, Part, UUID as SOUGHT};
 use common::calls::*;
 use common::tables::numbers;
-use common::traces::shuffle;
+use common::traces::{counted, shuffle};
 use peer::fields::END;
 use peer::random::Random;
 use talcfeather::{find, Found, Refusal, Search};
@@ -24,6 +24,11 @@ fn end() -> Part {
 /// The smallest record with that UUID: four fields, five blocks.
 fn smallest(uuid: &[u8; 16]) -> Vec<Part> {
     vec![part(0x01, uuid), part(0x03, b"t"), part(0x06, b"p"), end()]
+}
+
+/// That many of the smallest records, each with a UUID of its own, and none with the one sought.
+fn others(count: u32) -> Vec<Vec<Part>> {
+    (0..count).map(|number| smallest(&counted(number))).collect()
 }
 
 /// Version and END, then these records.
@@ -96,34 +101,46 @@ fn the_uuid_at_each_place_of_its_record() {
 fn first_middle_and_last_record() {
     let random = &mut Random(4);
     for (number, place, visited) in [(0, 32, 3), (1, 112, 7), (2, 192, 11), (3, 272, 15)] {
-        let mut records = vec![smallest(&OTHER); 4];
+        let mut records = others(4);
         records[number] = smallest(&SOUGHT);
         let found = finds(random, &with_records(&records));
         assert_eq!(found, [1, number as u64, place, visited]);
     }
     for (count, visited) in [(1, 6), (2, 10), (3, 14), (4, 18)] {
-        let none = finds(random, &with_records(&vec![smallest(&OTHER); count]));
+        let none = finds(random, &with_records(&others(count)));
         assert_eq!(none, [0, 0, 0, visited]);
     }
 }
 
-/// Of several records with that UUID the first decides, wherever the UUID stands in it.
+/// Two records with that UUID, wherever it stands in them, are no well-formed body: the first no
+/// longer decides. With another UUID in its place each of them is found.
 #[test]
-fn the_first_of_several() {
+fn the_only_match() {
     let random = &mut Random(5);
     let (early, other) = (smallest(&SOUGHT), smallest(&OTHER));
     let mut late = early.clone();
     late[..3].rotate_left(1);
     let cases = [
-        (vec![&early, &early], [1, 0, 32, 3]),
-        (vec![&late, &early], [1, 0, 32, 5]),
-        (vec![&early, &late], [1, 0, 32, 3]),
-        (vec![&other, &late, &early], [1, 1, 112, 9]),
-        (vec![&other, &early, &other, &early], [1, 1, 112, 7]),
+        (vec![&early, &early], [1, 0, 32, 3], [1, 1, 112, 7]),
+        (vec![&late, &early], [1, 0, 32, 5], [1, 1, 112, 7]),
+        (vec![&early, &late], [1, 0, 32, 3], [1, 1, 112, 9]),
+        (vec![&other, &late, &early], [1, 1, 112, 9], [1, 2, 192, 11]),
+        (vec![&late, &other, &late], [1, 0, 32, 5], [1, 2, 192, 13]),
+        (vec![&early, &other, &early], [1, 0, 32, 3], [1, 2, 192, 11]),
     ];
-    for (records, answer) in cases {
+    for (records, first, last) in cases {
         let records: Vec<_> = records.into_iter().cloned().collect();
-        assert_eq!(finds(random, &with_records(&records)), answer);
+        let body = join(random, &with_records(&records));
+        assert_eq!(answered(random, &body), (9, [0; 4]));
+        let sought = |number: &usize| records[*number].iter().any(|part| part.data == SOUGHT);
+        let both: Vec<usize> = (0..records.len()).filter(sought).collect();
+        for (kept, changed, answer) in [(0, 1, first), (1, 0, last)] {
+            let mut records = records.clone();
+            let uuid = records[both[changed]].iter_mut().find(|part| part.kind == 0x01).unwrap();
+            uuid.data[15] ^= 1;
+            assert!(records[both[kept]].iter().any(|part| part.data == SOUGHT));
+            assert_eq!(finds(random, &with_records(&records)), answer);
+        }
     }
 }
 
@@ -179,11 +196,11 @@ fn other_orders() {
 fn many_ends() {
     let random = &mut Random(8);
     for (count, place, visited) in [(1000, 80_032, 4003), (70_000, 5_600_032, 280_003)] {
-        let mut records = vec![smallest(&OTHER); count];
+        let mut records = others(count);
         assert_eq!(finds(random, &with_records(&records)), [0, 0, 0, visited - 1]);
         records.push(smallest(&SOUGHT));
         let found = finds(random, &with_records(&records));
-        assert_eq!(found, [1, count as u64, place, visited]);
+        assert_eq!(found, [1, count.into(), place, visited]);
     }
 }
 
@@ -245,6 +262,7 @@ fn faults() -> Vec<Vec<Part>> {
         with(7, part(0x03, b"")),
         with(6, part(0x01, &[8; 15])),
         with(6, part(0x01, &[8; 17])),
+        with(6, part(0x01, &SOUGHT)),
         with(6, part(0x02, &OTHER)),
         with(0, part(0x00, &[0x0e, 0x04])),
         with(0, part(0x00, &[0x0e, 0x03, 0])),
@@ -288,7 +306,7 @@ fn starts_of_a_body() {
     }
 }
 
-/// Which field of a record is the first UUID sought.
+/// Which field of a record is the UUID sought.
 fn deciding(parts: &[Part]) -> Option<usize> {
     let header = parts.iter().position(|part| part.kind == END).unwrap();
     (header..parts.len()).find(|at| parts[*at].kind == 0x01 && parts[*at].data == SOUGHT)
@@ -319,7 +337,8 @@ fn behind(random: &mut Random, before: &[Part]) -> Vec<Part> {
     shuffle(random, &mut rest);
     rest.push(end());
     for _ in 0..random.below(4) {
-        rest.extend(record(random));
+        let uuid = random.array();
+        rest.extend(record(random, &uuid));
     }
     rest
 }

@@ -64,6 +64,19 @@ static void finds(void)
     printf(" ");
 }
 
+/* The same record twice; then the second with another UUID. */
+static void doubles(void)
+{
+    uint8_t two[sizeof body + 80], judge[TALC_JUDGE_ANSWER], find[TALC_FIND_ANSWER];
+    memcpy(two, body, sizeof body);
+    memcpy(two + sizeof body, body + 32, 80);
+    TELL(judge, talc_judge(two, sizeof two, judge));
+    TELL(find, talc_find(two, sizeof two, two + 37, find));
+    two[sizeof body + 5 + 15] ^= 1;
+    printf("%u ", (unsigned)talc_find(two, sizeof two, two + sizeof body + 5, find));
+    printf("%u ", (unsigned)talc_number(find + 16));
+}
+
 /* The calls of the login table: answers of zeros, then with something in them. */
 static void tables(void)
 {
@@ -116,6 +129,7 @@ int main(void)
     printf(" %u", (unsigned)talc_replay(state, sizeof state, mixed, sizeof mixed, replay));
     printf(" %u ", (unsigned)talc_number(replay));
     finds();
+    doubles();
     tables();
     return left != 0 || talc_number(read) != 0;
 }

@@ -162,6 +162,35 @@ fn refusals() {
     }
 }
 
+/// Two records with one UUID: every command refuses the safe, says what can be done, and writes
+/// nothing.
+#[test]
+fn one_uuid_twice() {
+    let folder = Folder::new("twice");
+    let (body, uuid) = (body(), "09090909090909090909090909090909");
+    let last = body.len() - 16 - 32 - 16 - 32;
+    assert_eq!(&body[last..last + 5], b"\x10\0\0\0\x06");
+    let twice = [&body[..], &body[last..]].concat();
+    let file = folder.put("a.psafe3", &safe_around(&twice, 2048));
+    let out = folder.0.join("out");
+    let commands: [&[&str]; 6] = [
+        &["check", path(&file)],
+        &["list", path(&file)],
+        &["fields", path(&file)],
+        &["find", path(&file), uuid],
+        &["table", path(&file), path(&out)],
+        &["resave", path(&file), path(&out)],
+    ];
+    for command in commands {
+        let ended = talc(&[command, &["--passphrase-stdin"]].concat(), PASSPHRASE);
+        assert_eq!((ended.status, ended.out.as_str()), (9, ""), "{command:?}");
+        assert!(ended.err.contains("remove one that is there twice"), "{}", ended.err);
+    }
+    assert_eq!(folder.names(), ["a.psafe3"]);
+    let once = folder.put("a.psafe3", &safe_around(&body, 2048));
+    assert_eq!(talc(&["find", path(&once), uuid, "--passphrase-stdin"], PASSPHRASE).status, 0);
+}
+
 /// Every type in header and record, with data of any shape: all shown, nothing stumbles.
 #[test]
 fn any_fields() {

@@ -1,11 +1,12 @@
-//! How much stack read, write, replay, standing, export, import and row take: each runs on a painted
-//! stack of its own, and the paint that is left tells.
+//! How much stack each call but walk and append takes: it runs on a painted stack of its own, and the
+//! paint that is left tells.
 
 mod common;
 
 use common::bodies::{part, Part};
 use common::tables::*;
 use common::traces::*;
+use common::uuids::{body_with, chosen};
 use peer::random::Random;
 use std::ffi::c_void;
 use talcfeather::raw;
@@ -13,6 +14,9 @@ use talcfeather::raw;
 const PAINT: u8 = 0xC5;
 /// What the header promises, in bytes.
 const MOST: usize = 16 * 1024;
+/// Where a body is judged: the table in which its UUIDs are looked up stands on the stack, whatever
+/// the body's length.
+const JUDGING: usize = 64 * 1024;
 
 /// Room for the C library's `pthread_attr_t`, and more.
 type Attributes = [u64; 32];
@@ -79,6 +83,7 @@ fn the_paint_tells() {
     assert!(used_by(&mut || {}) < 4096);
     assert!((10_000..14_096).contains(&used_by(&mut takes::<10_000>)));
     assert!(used_by(&mut takes::<{ MOST + 1 }>) > MOST);
+    assert!(used_by(&mut takes::<{ JUDGING + 1 }>) > JUDGING);
 }
 
 fn write_uses(body: &[u8], output: &mut [u8], number: u32) {
@@ -91,7 +96,7 @@ fn write_uses(body: &[u8], output: &mut [u8], number: u32) {
         };
     });
     assert_eq!(answered, number);
-    assert!(used <= MOST, "{used} bytes");
+    assert!(used <= JUDGING, "{used} bytes");
 }
 
 fn read_uses(file: &[u8], number: u32) {
@@ -104,15 +109,29 @@ fn read_uses(file: &[u8], number: u32) {
         };
     });
     assert_eq!(answered, number);
-    assert!(used <= MOST, "{used} bytes");
+    assert!(used <= JUDGING, "{used} bytes");
+}
+
+/// Bodies without a record, with few, with more than the table takes in at once, and with more than it
+/// has room for from its last start on.
+fn bodies(random: &mut Random) -> Vec<Vec<u8>> {
+    let few: Vec<Uuid> = (0..3).map(counted).collect();
+    let many: Vec<Uuid> = (0..14_000).map(counted).collect();
+    let last: Vec<Uuid> = (0..2100).map(|_| chosen(random, 24_575)).collect();
+    [&[], &few[..], &many, &last].map(|uuids| body_with(random, uuids)).into()
+}
+
+/// The same with one record more, which has the UUID of the first; none for a body without one.
+fn doubled(body: &[u8]) -> Option<Vec<u8>> {
+    let first = body.get(32..112)?;
+    Some([body, first].concat())
 }
 
 /// The tables of the cipher stand on the stack: written and read, short and long, and refused.
 #[test]
-fn safes_at_most_16_kb() {
+fn safes_at_most_64_kb() {
     let random = &mut Random(3);
-    for count in [0, 1, 3000] {
-        let body = body_of(random, &vec![login(&[7; 16], &[]); count]);
+    for body in bodies(random) {
         let mut file = vec![0; body.len() + 200];
         write_uses(&body, &mut file[1..], 3);
         write_uses(&[0xff; 32], &mut file, 9);
@@ -121,6 +140,44 @@ fn safes_at_most_16_kb() {
         read_uses(&file[..100], 1);
         file[160] ^= 1;
         read_uses(&file, 9);
+        if let Some(doubled) = doubled(&body) {
+            write_uses(&doubled, &mut vec![0; doubled.len() + 200], 9);
+        }
+    }
+}
+
+fn judge_uses(body: &[u8], number: u32) {
+    let (mut answer, mut answered) = ([0; 16], 0);
+    let used = used_by(&mut || {
+        answered = unsafe { raw::talc_judge(body.as_ptr(), body.len(), &mut answer) };
+    });
+    assert_eq!(answered, number);
+    assert!(used <= JUDGING, "{used} bytes");
+}
+
+fn find_uses(body: &[u8], uuid: &Uuid, number: u32) {
+    let (mut answer, mut answered) = ([0; 32], 0);
+    let used = used_by(&mut || {
+        answered = unsafe { raw::talc_find(body.as_ptr(), body.len(), uuid, &mut answer) };
+    });
+    assert_eq!(answered, number);
+    assert!(used <= JUDGING, "{used} bytes");
+}
+
+/// Accepted and refused: before any UUID is looked up, and by the last one.
+#[test]
+fn judging_at_most_64_kb() {
+    let random = &mut Random(4);
+    for body in bodies(random) {
+        judge_uses(&body, 0);
+        judge_uses(&body[..body.len() - 1], 9);
+        find_uses(&body, &counted(2), 0);
+        find_uses(&body, &[9; 16], 0);
+        find_uses(&body[..16], &[9; 16], 9);
+        if let Some(doubled) = doubled(&body) {
+            judge_uses(&doubled, 9);
+            find_uses(&doubled, &[9; 16], 9);
+        }
     }
 }
 
@@ -175,7 +232,7 @@ fn export_uses(body: &[u8], output: &mut [u8], number: u32) {
             unsafe { raw::talc_export(body.as_ptr(), body.len(), NOW, start, length, &mut answer) };
     });
     assert_eq!(answered, number);
-    assert!(used <= MOST, "{used} bytes");
+    assert!(used <= JUDGING, "{used} bytes");
 }
 
 /// Import, and every row of the first few.
@@ -197,13 +254,19 @@ fn import_uses(table: &[u8], number: u32) {
 
 /// Accepted and refused in each way, short and long.
 #[test]
-fn tables_at_most_16_kb() {
+fn exports_at_most_64_kb() {
     let random = &mut Random(2);
+    let mut output = vec![0; 14_000 * 256];
+    for body in bodies(random) {
+        export_uses(&body, &mut output, 0);
+        if let Some(doubled) = doubled(&body) {
+            export_uses(&doubled, &mut output, 9);
+        }
+    }
     let fields = [part(USER, &[b'u'; 80]), part(GROUP, &[b'g'; 72]), part(EXPIRY, &[1; 4])];
-    let mut logins: Vec<Vec<Part>> = vec![login(&[7; 16], &fields); 3000];
+    let mut logins: Vec<Vec<Part>> = (0..3000).map(|n| login(&counted(n), &fields)).collect();
     let body = body_of(random, &logins);
-    let mut output = vec![0; 3001 * 256];
-    export_uses(&body, &mut output, 0);
+    export_uses(&body, &mut output[..768_000], 0);
     export_uses(&body, &mut output[..767_999], 3);
     export_uses(&body[..body.len() - 1], &mut output, 9);
     export_uses(&[], &mut [], 9);
@@ -213,9 +276,16 @@ fn tables_at_most_16_kb() {
         export_uses(&body, &mut output, 18);
         logins.pop();
     }
+}
+
+/// Tables of 3,000 full rows, of none, cut, and with a pad that is not zero.
+#[test]
+fn tables_at_most_16_kb() {
+    let row = stored(&[7; 16], [&[b't'; 80], &[b'u'; 80], &[b'g'; 72]], -1);
+    let mut table = row.repeat(3000);
     import_uses(&[], 0);
-    import_uses(&output[..768_000], 0);
-    import_uses(&output[..767_999], 18);
-    output[1023] = 1;
-    import_uses(&output, 18);
+    import_uses(&table, 0);
+    import_uses(&table[..767_999], 18);
+    table[1023] = 1;
+    import_uses(&table, 18);
 }

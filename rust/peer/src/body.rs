@@ -1,6 +1,7 @@
 //! The well-formed body, its counts, the bytes that the HMAC covers, find.
 
 use crate::fields::{all, Field, Value, END};
+use std::collections::HashSet;
 
 #[derive(Clone, Copy, Debug, PartialEq, Eq)]
 pub struct Counts {
@@ -44,12 +45,19 @@ fn good_record(record: &[Field]) -> bool {
         && only(record, 0x06).is_some_and(|f| f.length >= 1)
 }
 
+/// Whether no two of these records, each with its one UUID, have the same.
+fn distinct(records: &[&[Field]], body: &[u8]) -> bool {
+    let mut seen = HashSet::new();
+    records.iter().filter_map(|r| only(r, 0x01)).all(|f| seen.insert(f.data(body)))
+}
+
 /// The fields of header and records of a well-formed body.
 pub(crate) fn well_formed(body: &[u8]) -> Result<(Vec<Field>, Vec<Vec<Field>>), u32> {
     let fields = all(body).map_err(|_| 9u32)?;
     let parts = parts(&fields).ok_or(9u32)?;
     let (header, records) = parts.split_first().ok_or(9u32)?;
-    if !good_header(header, body) || !records.iter().all(|r| good_record(r)) {
+    let good_records = records.iter().all(|r| good_record(r)) && distinct(records, body);
+    if !good_header(header, body) || !good_records {
         return Err(9);
     }
     Ok((header.to_vec(), records.iter().map(|r| r.to_vec()).collect()))
@@ -76,12 +84,13 @@ fn visited(fields: &[Field], sought: Value) -> usize {
     matching.or(last_end).map_or(0, |at| at + 1)
 }
 
-/// The first record with that UUID, and the fields visited.
+/// The only record with that UUID, and the fields visited.
 pub fn find(body: &[u8], uuid: &[u8; 16]) -> Result<Search, u32> {
     let (_, records) = well_formed(body)?;
     let half = |i: usize| u64::from_le_bytes(uuid[i..i + 8].try_into().unwrap());
     let sought = Value::Uuid(half(0), half(8));
-    let number = records.iter().position(|r| r.iter().any(|f| f.value == sought));
-    let found = number.map(|n| Found { record: n as u64, place: records[n][0].place });
+    let mut those = records.iter().enumerate().filter(|(_, r)| r.iter().any(|f| f.value == sought));
+    let found = those.next().map(|(n, r)| Found { record: n as u64, place: r[0].place });
+    assert!(those.next().is_none(), "two records of one UUID in a well-formed body");
     Ok(Search { found, visited: visited(&all(body)?, sought) as u64 })
 }

@@ -161,9 +161,40 @@ fn fields_visited() {
     assert_eq!([visited(&body, 7), visited(&body, 8)], [3, 7]);
     let header = [&body[..16], &body[32..64], &body[16..]].concat();
     assert_eq!([visited(&header, 7), visited(&header, 8)], [4, 8]);
-    let two = [&body[..], &body[64..body.len() - 16], &body[32..64], &body[16..32]].concat();
-    assert_eq!([visited(&two, 7), visited(&two, 8)], [3, 12]);
+    let mut two = [&body[..], &body[64..body.len() - 16], &body[32..64], &body[16..32]].concat();
+    let last = two.len() - 48 + 5;
+    two[last..last + 16].fill(8);
+    assert_eq!([7, 8, 9].map(|uuid| visited(&two, uuid)), [3, 11, 12]);
     assert_eq!(find(&body[..body.len() - 16], &[7; 16]), Err(9));
+}
+
+/// One UUID, one record: a double is 9 wherever it stands; the header's own is no record's.
+#[test]
+fn one_uuid_one_record() {
+    let body = one_login(&[(0x03, b"Lathe")]);
+    let (start, record) = (&body[..32], &body[32..]);
+    let another = |byte: usize| {
+        let mut record = record.to_vec();
+        record[5 + byte] ^= 1;
+        record
+    };
+    let three = [start, record, &another(0), &another(15)].concat();
+    assert_eq!(judge(&three).unwrap().records, 3);
+    let search = find(&three, another(15)[5..21].try_into().unwrap()).unwrap();
+    assert_eq!((search.found.map(|found| found.record), search.visited), (Some(2), 11));
+    for at in 0..3 {
+        let mut records = [another(3), another(8)].to_vec();
+        records.insert(at, record.to_vec());
+        for again in 0..=3 {
+            let mut records = records.clone();
+            records.insert(again, record.to_vec());
+            let body = [start, &records.concat()].concat();
+            assert_eq!((judge(&body), find(&body, &[9; 16])), (Err(9), Err(9)));
+            assert_eq!(export(&body, 0, 1024), Err(Refused::Body));
+        }
+    }
+    let header = [&body[..16], &body[32..64], &body[16..]].concat();
+    assert_eq!(judge(&header).unwrap().records, 1);
 }
 
 /// By the request's own words: 86,400 d <= expiry - now < 86,400 (d + 1).

@@ -20,7 +20,7 @@ pub fn field(random: &mut Random, part: &Part) -> Vec<u8> {
 }
 
 pub fn join(random: &mut Random, parts: &[Part]) -> Vec<u8> {
-    parts.iter().flat_map(|p| field(random, p)).collect()
+    parts.iter().map(|p| field(random, p)).collect::<Vec<_>>().concat()
 }
 
 /// Text, or what comes close to it.
@@ -56,7 +56,8 @@ fn nonempty(random: &mut Random) -> Vec<u8> {
     data
 }
 
-/// That of every other record. No two of its bytes are equal: in another order it is another UUID.
+/// That of one record in most bodies. No two of its bytes are equal: in another order it is another
+/// UUID.
 pub const UUID: [u8; 16] = [1, 2, 3, 4, 5, 6, 7, 8, 9, 10, 11, 12, 13, 14, 15, 16];
 
 const REPEATABLE: [u8; 8] = [0x0c, 0x0d, 0x0e, 0x11, 0x12, 0x14, 0x80, 0xfe];
@@ -76,10 +77,10 @@ fn header(random: &mut Random) -> Vec<Part> {
     parts
 }
 
-pub fn record(random: &mut Random) -> Vec<Part> {
-    let uuid = if random.one_in(2) { UUID } else { random.array() };
+/// A record with that UUID.
+pub fn record(random: &mut Random, uuid: &[u8; 16]) -> Vec<Part> {
     let mut parts = vec![
-        part(0x01, &uuid),
+        part(0x01, uuid),
         Part { kind: 0x03, data: nonempty(random) },
         Part { kind: 0x06, data: nonempty(random) },
     ];
@@ -98,26 +99,43 @@ pub fn record(random: &mut Random) -> Vec<Part> {
     parts
 }
 
-/// The fields of a well-formed body.
+/// The fields of a well-formed body: no two of its records have one UUID.
 pub fn good(random: &mut Random) -> Vec<Part> {
     let mut parts = header(random);
-    for _ in 0..random.pick(&[0, 1, 1, 2, 3, 6]) {
-        parts.extend(record(random));
+    let mut uuids = vec![[0; 16]; random.pick(&[0, 1, 1, 2, 3, 6])];
+    uuids.fill_with(|| random.array());
+    if !uuids.is_empty() && !random.one_in(4) {
+        let known = random.below(uuids.len());
+        uuids[known] = UUID;
+    }
+    for uuid in &uuids {
+        parts.extend(record(random, uuid));
     }
     parts
+}
+
+/// Gives one UUID, the header's or a record's, the bytes of another.
+fn repeat_uuid(random: &mut Random, parts: &mut [Part]) {
+    let is_uuid = |at: &usize| parts[*at].kind == 0x01 && parts[*at].data.len() == 16;
+    let uuids: Vec<usize> = (0..parts.len()).filter(is_uuid).collect();
+    if !uuids.is_empty() {
+        let (from, to) = (random.pick(&uuids), random.pick(&uuids));
+        parts[to].data = parts[from].data.clone();
+    }
 }
 
 /// One change to the row of fields.
 pub fn rearrange(random: &mut Random, parts: &mut Vec<Part>) {
     let at = random.below(parts.len());
     let other = random.below(parts.len());
-    match random.below(7) {
+    match random.below(8) {
         0 => drop(parts.remove(at)),
         1 => parts.insert(other, parts[at].clone()),
         2 => parts[at].kind = random.pick(&[0x00, 0x01, 0x03, 0x06, 0x13, END]),
         3 => parts[at].data = data(random),
         4 => parts.swap(at, other),
         5 => drop(parts.pop()),
+        6 => repeat_uuid(random, parts),
         _ => parts.push(part(random.pick(&[0x01, 0x03, END]), &[])),
     }
 }

@@ -9,3 +9,4 @@ pub mod guarded;
 pub mod process;
 pub mod tables;
 pub mod traces;
+pub mod uuids;

@@ -1,9 +1,11 @@
 //! `talc` as a process, in a folder of the test's own, and a safe for it.
 
 use super::bodies::{join, part};
+use peer::body::covered;
 use peer::fields::END;
+use peer::hmac::hmac;
 use peer::random::Random;
-use peer::safe::{write, Parts};
+use peer::safe::{assemble, Parts};
 use std::ffi::OsStr;
 use std::fs;
 use std::io::Write;
@@ -136,10 +138,11 @@ pub fn body() -> Vec<u8> {
     join(&mut Random(1), &fields)
 }
 
+/// Around any fields, well formed or not, with the right HMAC.
 pub fn safe_around(body: &[u8], iter: u32) -> Vec<u8> {
     let passphrase = PASSPHRASE.to_vec();
     let parts = Parts { passphrase, salt: [1; 32], iter, k: [2; 32], l: [3; 32], iv: [4; 16] };
-    write(&parts, body, body.len() + 200).unwrap()
+    assemble(&parts, body, &hmac(&parts.l, &covered(body)))
 }
 
 pub fn safe() -> Vec<u8> {

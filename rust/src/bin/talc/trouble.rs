@@ -90,7 +90,8 @@ fn advice(refusal: Refusal) -> &'static str {
         Refusal::Iter => "save it with a current program",
         Refusal::Ceiling => "raise --ceiling if the file can be trusted",
         Refusal::Body => {
-            "copy it again; if it stays, give every entry a title and a password and save it again"
+            "copy it again; if it stays, give every entry a title and a password, remove one that \
+             is there twice, and save it again"
         }
         _ => refusal.advice(),
     }
