@@ -81,7 +81,9 @@
  * For n records, at most n * (n - 1) / 2 pairs of UUIDs are compared, whatever
  * the UUIDs are; ordinary ones, random or counted up, need a few compares
  * each. For the 52,425 records that the longest file can hold, UUIDs that were
- * chosen to collide cost some seconds at most, and change no answer.
+ * chosen to collide cost some seconds, and change no answer. A body that
+ * talc_judge(), talc_find() or talc_export() is handed may be longer than a
+ * file's; there the time of chosen UUIDs grows with the square of the records.
  */
 #ifndef TALCFEATHER_H
 #define TALCFEATHER_H
