@@ -69,7 +69,8 @@ static void chosen(uint8_t uuid[16], uint32_t slot)
     uint32_t words[4] = {0, (uint32_t)any(), (uint32_t)any(), (uint32_t)any()};
     uint32_t least = (uint32_t)((((uint64_t)slot << 32) + 24575) / 24576);
     words[0] = least * 340573321u - 3 * words[1] - 5 * words[2] - 7 * words[3];
-    if ((uint64_t)(least * 340573321u * 2654435769u) * 24576 >> 32 != slot)
+    uint32_t sum = words[0] + 3 * words[1] + 5 * words[2] + 7 * words[3];
+    if ((uint64_t)(sum * 2654435769u) * 24576 >> 32 != slot)
         stop("a UUID is not at its slot");
     memcpy(uuid, words, 16);
 }
@@ -99,7 +100,7 @@ static const struct {
     int collide;
 } kinds[] = {
     {"counted up", counted, 0},       {"random", at_random, 0},
-    {"equal starts", equal_starts, 0}, {"chosen, first slot", first_slot, 1},
+    {"sorted, equal starts", equal_starts, 0}, {"chosen, first slot", first_slot, 1},
     {"chosen, last slot", last_slot, 1},
 };
 

@@ -3,7 +3,7 @@
 
 mod common;
 
-use common::bodies::{data, good, join, part, record, Part, UUID as SOUGHT};
+use common::bodies::{data, end, good, join, part, record, version, Part, UUID as SOUGHT};
 use common::calls::*;
 use common::tables::numbers;
 use common::traces::{counted, shuffle};
@@ -12,14 +12,6 @@ use peer::random::Random;
 use talcfeather::{find, Found, Refusal, Search};
 
 const OTHER: [u8; 16] = [8; 16];
-
-fn version() -> Part {
-    part(0x00, &[0x0e, 0x03])
-}
-
-fn end() -> Part {
-    part(END, &[])
-}
 
 /// The smallest record with that UUID: four fields, five blocks.
 fn smallest(uuid: &[u8; 16]) -> Vec<Part> {
@@ -134,11 +126,10 @@ fn the_only_match() {
         assert_eq!(answered(random, &body), (9, [0; 4]));
         let sought = |number: &usize| records[*number].iter().any(|part| part.data == SOUGHT);
         let both: Vec<usize> = (0..records.len()).filter(sought).collect();
-        for (kept, changed, answer) in [(0, 1, first), (1, 0, last)] {
+        for (changed, answer) in [(1, first), (0, last)] {
             let mut records = records.clone();
             let uuid = records[both[changed]].iter_mut().find(|part| part.kind == 0x01).unwrap();
             uuid.data[15] ^= 1;
-            assert!(records[both[kept]].iter().any(|part| part.data == SOUGHT));
             assert_eq!(finds(random, &with_records(&records)), answer);
         }
     }

@@ -7,7 +7,10 @@ use common::bodies::{part, Part};
 use common::tables::*;
 use common::traces::*;
 use common::uuids::{body_with, chosen};
+use peer::body::covered;
+use peer::hmac::hmac;
 use peer::random::Random;
+use peer::safe::{assemble, Parts};
 use std::ffi::c_void;
 use talcfeather::raw;
 
@@ -86,30 +89,38 @@ fn the_paint_tells() {
     assert!(used_by(&mut takes::<{ JUDGING + 1 }>) > JUDGING);
 }
 
+/// The call answers this number, and takes no more stack.
+fn within(most: usize, number: u32, call: &mut dyn FnMut() -> u32) {
+    let mut answered = 0;
+    let used = used_by(&mut || answered = call());
+    assert_eq!(answered, number);
+    assert!(used <= most, "{used} bytes");
+}
+
 fn write_uses(body: &[u8], output: &mut [u8], number: u32) {
-    let (salt, k, l, iv, mut answered) = ([1; 32], [2; 32], [3; 32], [4; 16], 0);
-    let used = used_by(&mut || {
+    let (salt, k, l, iv) = ([1; 32], [2; 32], [3; 32], [4; 16]);
+    within(JUDGING, number, &mut || {
         let (start, length) = (output.as_mut_ptr(), output.len());
         let (text, size, pass) = (body.as_ptr(), body.len(), b"pass".as_ptr());
-        answered = unsafe {
-            raw::talc_write(pass, 4, &salt, 2048, &k, &l, &iv, text, size, start, length)
-        };
+        unsafe { raw::talc_write(pass, 4, &salt, 2048, &k, &l, &iv, text, size, start, length) }
     });
-    assert_eq!(answered, number);
-    assert!(used <= JUDGING, "{used} bytes");
 }
 
 fn read_uses(file: &[u8], number: u32) {
-    let (mut workspace, mut answer, mut answered) = (vec![0; file.len()], [0; 96], 0);
-    let used = used_by(&mut || {
+    let (mut workspace, mut answer) = (vec![0; file.len()], [0; 96]);
+    within(JUDGING, number, &mut || {
         let (start, length) = (workspace.as_mut_ptr(), workspace.len());
-        let (text, size) = (file.as_ptr(), file.len());
-        answered = unsafe {
-            raw::talc_read(text, size, b"pass".as_ptr(), 4, 4096, start, length, &mut answer)
-        };
+        let (text, size, pass) = (file.as_ptr(), file.len(), b"pass".as_ptr());
+        unsafe { raw::talc_read(text, size, pass, 4, 4096, start, length, &mut answer) }
     });
-    assert_eq!(answered, number);
-    assert!(used <= JUDGING, "{used} bytes");
+}
+
+/// The file of any body, with the right HMAC.
+fn file_of(body: &[u8]) -> Vec<u8> {
+    let passphrase = b"pass".to_vec();
+    let parts =
+        Parts { passphrase, salt: [1; 32], iter: 2048, k: [2; 32], l: [3; 32], iv: [4; 16] };
+    assemble(&parts, body, &hmac(&parts.l, &covered(body)))
 }
 
 /// Bodies without a record, with few, with more than the table takes in at once, and with more than it
@@ -142,26 +153,23 @@ fn safes_at_most_64_kb() {
         read_uses(&file, 9);
         if let Some(doubled) = doubled(&body) {
             write_uses(&doubled, &mut vec![0; doubled.len() + 200], 9);
+            read_uses(&file_of(&doubled), 9);
         }
     }
 }
 
 fn judge_uses(body: &[u8], number: u32) {
-    let (mut answer, mut answered) = ([0; 16], 0);
-    let used = used_by(&mut || {
-        answered = unsafe { raw::talc_judge(body.as_ptr(), body.len(), &mut answer) };
+    let mut answer = [0; 16];
+    within(JUDGING, number, &mut || unsafe {
+        raw::talc_judge(body.as_ptr(), body.len(), &mut answer)
     });
-    assert_eq!(answered, number);
-    assert!(used <= JUDGING, "{used} bytes");
 }
 
 fn find_uses(body: &[u8], uuid: &Uuid, number: u32) {
-    let (mut answer, mut answered) = ([0; 32], 0);
-    let used = used_by(&mut || {
-        answered = unsafe { raw::talc_find(body.as_ptr(), body.len(), uuid, &mut answer) };
+    let mut answer = [0; 32];
+    within(JUDGING, number, &mut || unsafe {
+        raw::talc_find(body.as_ptr(), body.len(), uuid, &mut answer)
     });
-    assert_eq!(answered, number);
-    assert!(used <= JUDGING, "{used} bytes");
 }
 
 /// Accepted and refused: before any UUID is looked up, and by the last one.
@@ -182,23 +190,18 @@ fn judging_at_most_64_kb() {
 }
 
 fn replay_uses(state: &mut [u8], trace: &[u8], number: u32) {
-    let (mut answer, mut answered) = ([0; 8], 0);
-    let used = used_by(&mut || {
+    let mut answer = [0; 8];
+    within(MOST, number, &mut || {
         let (start, length) = (state.as_mut_ptr(), state.len());
-        answered =
-            unsafe { raw::talc_replay(start, length, trace.as_ptr(), trace.len(), &mut answer) };
+        unsafe { raw::talc_replay(start, length, trace.as_ptr(), trace.len(), &mut answer) }
     });
-    assert_eq!(answered, number);
-    assert!(used <= MOST, "{used} bytes");
 }
 
 fn standing_uses(state: &[u8], uuid: &Uuid, number: u32) {
-    let (mut answer, mut answered) = ([0; 40], 0);
-    let used = used_by(&mut || {
-        answered = unsafe { raw::talc_standing(state.as_ptr(), state.len(), uuid, &mut answer) };
+    let mut answer = [0; 40];
+    within(MOST, number, &mut || unsafe {
+        raw::talc_standing(state.as_ptr(), state.len(), uuid, &mut answer)
     });
-    assert_eq!(answered, number);
-    assert!(used <= MOST, "{used} bytes");
 }
 
 /// Accepted and refused in each way, on fresh, full and damaged states.
@@ -225,28 +228,23 @@ fn at_most_16_kb() {
 }
 
 fn export_uses(body: &[u8], output: &mut [u8], number: u32) {
-    let (mut answer, mut answered) = ([0; 24], 0);
-    let used = used_by(&mut || {
+    let mut answer = [0; 24];
+    within(JUDGING, number, &mut || {
         let (start, length) = (output.as_mut_ptr(), output.len());
-        answered =
-            unsafe { raw::talc_export(body.as_ptr(), body.len(), NOW, start, length, &mut answer) };
+        unsafe { raw::talc_export(body.as_ptr(), body.len(), NOW, start, length, &mut answer) }
     });
-    assert_eq!(answered, number);
-    assert!(used <= JUDGING, "{used} bytes");
 }
 
-/// Import, and every row of the first few.
+/// Import, and each of the first rows, whatever that answers.
 fn import_uses(table: &[u8], number: u32) {
-    let (mut answer, mut answered) = ([0; 16], 0);
-    let used = used_by(&mut || {
-        answered = unsafe { raw::talc_import(table.as_ptr(), table.len(), &mut answer) };
+    let mut answer = [0; 16];
+    within(MOST, number, &mut || unsafe {
+        raw::talc_import(table.as_ptr(), table.len(), &mut answer)
     });
-    assert_eq!(answered, number);
-    assert!(used <= MOST, "{used} bytes");
-    for number in 0..4 {
+    for row in 0..4 {
         let mut answer = [0; 56];
         let used = used_by(&mut || {
-            unsafe { raw::talc_row(table.as_ptr(), table.len(), number, &mut answer) };
+            unsafe { raw::talc_row(table.as_ptr(), table.len(), row, &mut answer) };
         });
         assert!(used <= MOST, "{used} bytes");
     }

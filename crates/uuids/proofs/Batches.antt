@@ -12,7 +12,7 @@ use lib.Seq.{getD-drop, drop-drop}
 use borrow.Author.Tests.{ltb-true, ltb-false}
 use Rattle.words.proofs.Either.{lt-or-ge}
 use Rattle.uuids.specs.Uuids.{uuidsFrom, Again, Repeats}
-use Rattle.uuids.specs.Batches.{NextAt, Best, batchOf, Passing, answerOf}
+use Rattle.uuids.specs.Batches.{NextAt, Best, onFrom, Passing, answerOf}
 use Rattle.uuids.specs.declared.Repeat.the-variants.{At, Nothing}
 use Rattle.uuids.specs.declared.batch.Went.{Went}
 use Rattle.uuids.proofs.Steps.{few}
@@ -81,12 +81,12 @@ module _ (s : List ℕ) (from at h b : ℕ) (x : Batches s from at h b) where
       (λ i j p q l z. x .standing .none i j p q l (omega (arith, simp length-drop at (ap length (sym (x .rest) ∙ e)))) z) (x .standing .hit)
 
   module _ (p : ℕ) (f : NextAt s at p) (w : Went) (y : Passing s p h b w) where
-    same : batchOf s p ≡ drop h (uuidsFrom s from)
+    same : onFrom s p ≡ drop h (uuidsFrom s from)
     same = sym (f .next) ∙ x .rest
 
     pub batches-next : Batches s from (w .next) (h + w .members) (w .best)
     batches-next = record {
-      standing = further (uuidsFrom s from) (batchOf s p) (length s) h (w .members) b (w .best) (x .standing) same (x .enough) (y .best);
+      standing = further (uuidsFrom s from) (onFrom s p) (length s) h (w .members) b (w .best) (x .standing) same (x .enough) (y .best);
       rest = y .rest ∙ ap (drop (w .members)) same ∙ drop-drop (w .members) h (uuidsFrom s from);
       enough = omega (arith, y .enough, ap length same, length-drop h (uuidsFrom s from), x .enough);
     }

@@ -3,4 +3,5 @@ mod Same
 mod Members
 mod Passes
 mod Batches
+mod Cases
 pub mod OneAnswer

@@ -9,8 +9,8 @@ use native.Mathlib.Omega.{arith}
 use lib.ListN.{length, getD, set, replicate, length-set, length-replicate}
 use lib.Seq.{getD-set-same, getD-set-other}
 use Rattle.words.proofs.Either.{lt-or-ge, eq-or-ne}
-use Rattle.uuids.specs.Table.{Tells, idAt, startOf, placeOf, Taken, Holds, Other, Fits, Looks}
-use Rattle.uuids.specs.Batches.{Empty}
+use Rattle.uuids.specs.Table.{Tells, idAt, startOf, placeOf, Taken, Holds, Other, Slots, Looks}
+use Rattle.uuids.specs.Batches.{NoMembers}
 use Rattle.uuids.specs.declared.table.Look.the-variants.{Known, Free, Full}
 
 -- a look-up has come to slot i: all before it, from the start on, are another's
@@ -59,11 +59,11 @@ pub record Own (s : List ℕ) (base : ℕ) (slots u : List ℕ) : Type 0 where
 
 -- the first m of us are the members
 pub record Table (s : List ℕ) (base : ℕ) (slots : List ℕ) (us : List (List ℕ)) (m : ℕ) : Type 0 where
-  pub fits : Fits s base slots
+  pub fits : Slots s base slots
   pub each : (k : ℕ) → k < m → Own s base slots (getD us k [])
   pub only : (i : ℕ) → Taken slots i → (k : ℕ) × (k < m) × (idAt s (placeOf base (getD slots i 0)) ≡ getD us k [])
 
-pub table-start : (s : List ℕ) (base : ℕ) (slots : List ℕ) (us : List (List ℕ)) → Empty slots → Table s base slots us 0
+pub table-start : (s : List ℕ) (base : ℕ) (slots : List ℕ) (us : List (List ℕ)) → NoMembers slots → Table s base slots us 0
 table-start s base slots us z = record {
   fits = record { long = z .long; inside = λ i t. absurd (omega (arith, z .zero i)) };
   each = λ k h. absurd (omega arith);
@@ -152,7 +152,7 @@ module _ (s : List ℕ) (base : ℕ) (slots : List ℕ) (us : List (List ℕ)) (
     }
 
 -- zeros are no members
-pub all-zero : Empty (replicate 26624 0)
+pub all-zero : NoMembers (replicate 26624 0)
 all-zero = record { long = length-replicate {A = ℕ} 26624 0; zero = λ i. by 26624 i }
   where
     by : (n i : ℕ) → _≡_ {A = ℕ} (getD (replicate n 0) i 0) 0

@@ -1,4 +1,4 @@
--- One batch: the members are the first UUIDs, no two of them the same, and of those that were passed none is the same as a member before it. By the table's laws, record by record.
+-- One batch: the members are the first UUIDs, no two of them the same, and of those that were passed none is the same as a member before it. By the table's laws, UUID by UUID.
 use Prim.Native.Nat.{ℕ, zero, suc, _+_, _-_, _*_, _/_, _≤_, _<_}
 use mathlib.Core.Path.{_≡_, refl, sym, ap, _∙_, subst}
 use mathlib.Core.Bool.{Bool, true, false, true≢false}
@@ -11,7 +11,7 @@ use types.Run.{OneOf}
 use denote.Enum.Declared.{tagOf}
 use Rattle.uuids.specs.Uuids.{uuidsFrom}
 use Rattle.uuids.specs.Table.{idAt, startOf, placeOf, Looks, TakenIn}
-use Rattle.uuids.specs.Batches.{NextAt, Stepping, Empty, Best, batchOf, Passing, wentTo}
+use Rattle.uuids.specs.Batches.{NextAt, Stepping, NoMembers, Best, onFrom, Passing, wentTo}
 use Rattle.uuids.specs.declared.next.Next.{Next}
 use Rattle.uuids.specs.declared.next.Next.the-variants as Next
 use Rattle.uuids.specs.declared.table.Look.{Look}
@@ -36,27 +36,27 @@ uncons (u ∷ us) (suc m) a l e = let r = uncons us m a l e in (omega (arith, r 
 all-gone : (us : List (List ℕ)) (m : ℕ) → drop m us ≡ [] → length us ≤ m
 all-gone us m e = omega (arith, simp length-drop at (ap length e))
 
--- The batch that begins at base, with the record of this number. It has come to `at` and to number n; it is growing or not; these are its members, and `next` is behind the last of them.
+-- The batch that begins at base, with the UUID of this number. It has come to `at` and to number n; it is growing or not; these are its members, and `next` is behind the last of them.
 pub record Passes (s : List ℕ) (base number : ℕ) (slots : List ℕ) (at n : ℕ) (growing : Bool) (next members : ℕ) : Type 0 where
   pub i : ℕ
   pub is : n ≡ number + i
-  pub table : Table s base slots (batchOf s base) members
-  pub rest : uuidsFrom s at ≡ drop i (batchOf s base)
-  pub behind : uuidsFrom s next ≡ drop members (batchOf s base)
+  pub table : Table s base slots (onFrom s base) members
+  pub rest : uuidsFrom s at ≡ drop i (onFrom s base)
+  pub behind : uuidsFrom s next ≡ drop members (onFrom s base)
   pub some : 1 ≤ members
   pub few : members ≤ i
-  pub enough : i ≤ length (batchOf s base)
+  pub enough : i ≤ length (onFrom s base)
   pub all : growing ≡ true → (members ≡ i) × (next ≡ at)
   pub blocks : ℕ
   pub on : at ≡ base + 27 + 16 * blocks
-  pub none : (k j : ℕ) → k < i → j < k → j < members → getD (batchOf s base) j [] ≡ getD (batchOf s base) k [] → ⊥
+  pub none : (k j : ℕ) → k < i → j < k → j < members → getD (onFrom s base) j [] ≡ getD (onFrom s base) k [] → ⊥
 
-pub passes-start : (s : List ℕ) (base number : ℕ) (slots : List ℕ) (first : ℕ) → base + 27 ≤ length s → Empty slots → (first ≡ startOf (idAt s base)) × (first < 24576)
+pub passes-start : (s : List ℕ) (base number : ℕ) (slots : List ℕ) (first : ℕ) → base + 27 ≤ length s → NoMembers slots → (first ≡ startOf (idAt s base)) × (first < 24576)
     → Passes s base number (set slots first 1) (base + 27) (number + 1) true (base + 27) 1
 passes-start s base number slots first h z f = record {
   i = 1;
   is = refl;
-  table = table-more s base slots (batchOf s base) 0 (table-start s base slots (batchOf s base) z) (idAt s base) first
+  table = table-more s base slots (onFrom s base) 0 (table-start s base slots (onFrom s base) z) (idAt s base) first
       (omega (arith, f .0), omega (arith, f .1), z .zero first, λ j g l. absurd (omega (arith, f .0))) refl 1 (omega arith) (ap (idAt s) (begin base)) (omega arith);
   rest = refl;
   behind = refl;
@@ -74,7 +74,7 @@ passes-start s base number slots first h z f = record {
 
 module _ (s : List ℕ) (base number limit : ℕ) (slots : List ℕ) (at n : ℕ) (growing : Bool) (next members : ℕ) (x : Passes s base number slots at n growing next members) where
   abbrev us : List (List ℕ)
-  us = batchOf s base
+  us = onFrom s base
 
   ended : (b : ℕ) → Best us members number limit b → Passing s base number limit (wentTo b next members)
   ended b e = record { best = e; rest = x .behind; some = x .some; enough = omega (arith, x .few, x .enough) }

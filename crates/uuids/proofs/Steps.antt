@@ -2,7 +2,7 @@
 use Prim.Native.Nat.{ℕ, zero, suc, _+_, _-_, _*_, _/_, _≤_, _<_}
 use mathlib.Core.Path.{_≡_, refl, sym, ap, ap₂, _∙_}
 use mathlib.Core.Bool.{Bool, true, false, cond, _&&_}
-use mathlib.Core.List.{List, [], _∷_}
+use mathlib.Core.List.{List, [], _∷_, _++_}
 use native.Mathlib.Omega.{arith}
 use lib.Dec.{eqb, leb}
 use lib.ListN.{length, take, drop}
@@ -12,7 +12,7 @@ use Rattle.words.proofs.EachLaws.{both}
 use Rattle.words.proofs.Places.{fourAt, four-at}
 use Rattle.fields.specs.Stored.{roomOf}
 use Rattle.fields.specs.Walk.{lenAt, kindAt, dataAt}
-use Rattle.uuids.specs.Uuids.{isUuidAt, uuidsAmong, uuidsFrom}
+use Rattle.uuids.specs.Uuids.{isUuidAt, uuidAt, uuidsAmong, uuidsFrom}
 use Rattle.uuids.specs.Table.{idAt}
 use Rattle.uuids.specs.Batches.{NextAt}
 
@@ -27,8 +27,7 @@ enough zero zero s p g h = refl
 enough zero (suc n) s p g h = rw (lt-leb (after s p) (length s) (omega arith))
 enough (suc m) zero s p g h = rw (lt-leb (after s p) (length s) (omega arith))
 enough (suc m) (suc n) s p g h =
-    ap (λ (l : List (List ℕ)). cond (leb (after s p) (length s)) (cond (isUuidAt s p) (dataAt s p ∷ l) l) [])
-    (enough m n s (after s p) (omega arith) (omega arith))
+    ap (λ (l : List (List ℕ)). cond (leb (after s p) (length s)) (uuidAt s p ++ l) []) (enough m n s (after s p) (omega arith) (omega arith))
 
 pub few : (s : List ℕ) (p : ℕ) → length (uuidsFrom s p) ≤ length s
 unfolding uuidsFrom uuidsAmong
@@ -39,7 +38,7 @@ few s p = by (length s) p
     by (suc n) p = cases (leb (after s p) (length s)) (isUuidAt s p) (by n (after s p))
       where
         cases : (b c : Bool) → length (uuidsAmong n s (after s p)) ≤ n
-            → length (cond b (cond c (dataAt s p ∷ uuidsAmong n s (after s p)) (uuidsAmong n s (after s p))) []) ≤ suc n
+            → length (cond b (cond c (dataAt s p ∷ []) [] ++ uuidsAmong n s (after s p)) []) ≤ suc n
         cases true true h = omega arith
         cases true false h = omega arith
         cases false c h = omega arith
@@ -49,12 +48,11 @@ module _ (s : List ℕ) (p : ℕ) where
   sixteen u = eqb-true (lenAt s p) 16 (both (eqb (kindAt s p) 0x01) _ u .1)
 
   -- one field off
-  one : (n : ℕ) → length s ≡ suc n
-      → uuidsFrom s p ≡ cond (leb (after s p) (length s)) (cond (isUuidAt s p) (dataAt s p ∷ uuidsFrom s (after s p)) (uuidsFrom s (after s p))) []
+  one : (n : ℕ) → length s ≡ suc n → uuidsFrom s p ≡ cond (leb (after s p) (length s)) (uuidAt s p ++ uuidsFrom s (after s p)) []
   unfolding uuidsFrom uuidsAmong
   one n e =
       ap (λ (k : ℕ). uuidsAmong k s p) e
-      ∙ ap (λ (l : List (List ℕ)). cond (leb (after s p) (length s)) (cond (isUuidAt s p) (dataAt s p ∷ l) l) []) (enough n (length s) s (after s p) (omega arith) (omega arith))
+      ∙ ap (λ (l : List (List ℕ)). cond (leb (after s p) (length s)) (uuidAt s p ++ l) []) (enough n (length s) s (after s p) (omega arith) (omega arith))
 
   pub none-fits : length s < after s p → uuidsFrom s p ≡ []
   unfolding uuidsFrom uuidsAmong
@@ -65,21 +63,20 @@ module _ (s : List ℕ) (p : ℕ) where
       by (suc n) e = rw (lt-leb (after s p) (length s) h)
 
   module _ (h : after s p ≤ length s) where
-    pub fits : uuidsFrom s p ≡ cond (isUuidAt s p) (dataAt s p ∷ uuidsFrom s (after s p)) (uuidsFrom s (after s p))
+    pub fits : uuidsFrom s p ≡ uuidAt s p ++ uuidsFrom s (after s p)
     fits =
         let e : length s ≡ suc (length s - 1) = omega arith in
-        one (length s - 1) e
-        ∙ ap (λ (b : Bool). cond b (cond (isUuidAt s p) (dataAt s p ∷ uuidsFrom s (after s p)) (uuidsFrom s (after s p))) []) (le-leb (after s p) (length s) h)
+        one (length s - 1) e ∙ ap (λ (b : Bool). cond b (uuidAt s p ++ uuidsFrom s (after s p)) []) (le-leb (after s p) (length s) h)
 
-    pub passed-over : isUuidAt s p ≡ false → uuidsFrom s p ≡ uuidsFrom s (after s p)
-    passed-over n = fits ∙ ap (λ (b : Bool). cond b (dataAt s p ∷ uuidsFrom s (after s p)) (uuidsFrom s (after s p))) n
+    passed-over : isUuidAt s p ≡ false → uuidsFrom s p ≡ uuidsFrom s (after s p)
+    passed-over n = fits ∙ ap (λ (b : Bool). cond b (dataAt s p ∷ []) [] ++ uuidsFrom s (after s p)) n
 
-    pub comes-first : isUuidAt s p ≡ true → uuidsFrom s p ≡ idAt s (p + 5) ∷ uuidsFrom s (p + 5 + 27)
+    comes-first : isUuidAt s p ≡ true → uuidsFrom s p ≡ idAt s (p + 5) ∷ uuidsFrom s (p + 5 + 27)
     comes-first u =
         let l = sixteen u in
         let r : after s p ≡ p + 5 + 27 = ap (λ (n : ℕ). p + roomOf n) l ∙ omega arith in
         fits
-        ∙ ap (λ (b : Bool). cond b (dataAt s p ∷ uuidsFrom s (after s p)) (uuidsFrom s (after s p))) u
+        ∙ ap (λ (b : Bool). cond b (dataAt s p ∷ []) [] ++ uuidsFrom s (after s p)) u
         ∙ ap₂ _∷_ (ap (λ (n : ℕ). take n (drop (p + 5) s)) l) (ap (uuidsFrom s) r)
 
 -- the search has come to `at`, some blocks on, and has passed no UUID

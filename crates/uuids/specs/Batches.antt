@@ -25,7 +25,7 @@ Stepping s from (Next.At p) = NextAt s from p
 Stepping s from Next.Over = uuidsFrom s from ≡ []
 
 -- no slot is taken
-pub record Empty (slots : List ℕ) : Type 0 where
+pub record NoMembers (slots : List ℕ) : Type 0 where
   pub long : length slots ≡ 26624
   pub zero : (i : ℕ) → getD slots i 0 ≡ 0
 
@@ -38,17 +38,17 @@ pub record Best (us : List (List ℕ)) (h n limit b : ℕ) : Type 0 where
   pub none : (i j : ℕ) → n + i < b → i < length us → j < i → j < h → getD us j [] ≡ getD us i [] → ⊥
   pub hit : b < limit → (i : ℕ) × (b ≡ n + i) × (i < length us) × Again us i
 
--- the UUIDs from the one at base on
-abbrev pub batchOf : List ℕ → ℕ → List (List ℕ)
-batchOf s base = idAt s base ∷ uuidsFrom s (base + 27)
+-- the UUIDs from the one at base on: those of the batch that begins there, and all later ones
+abbrev pub onFrom : List ℕ → ℕ → List (List ℕ)
+onFrom s base = idAt s base ∷ uuidsFrom s (base + 27)
 
--- a batch that begins at base
+-- what is known after the batch that begins at base: its members are the first of those from there on
 pub record Passing (s : List ℕ) (base n limit : ℕ) (w : Went) : Type 0 where
-  pub best : Best (batchOf s base) (w .members) n limit (w .best)
-  pub rest : uuidsFrom s (w .next) ≡ drop (w .members) (batchOf s base)
+  pub best : Best (onFrom s base) (w .members) n limit (w .best)
+  pub rest : uuidsFrom s (w .next) ≡ drop (w .members) (onFrom s base)
   pub some : 1 ≤ w .members
-  pub enough : w .members ≤ length (batchOf s base)
+  pub enough : w .members ≤ length (onFrom s base)
 
--- best is a record's number, or n for none
+-- best is a UUID's number, or n for none
 abbrev pub answerOf : ℕ → ℕ → Repeat
 answerOf best n = cond (ltb best n) (At best) Nothing

@@ -23,7 +23,7 @@ startOf u =
     (numberLow (take 4 u) + 3 * numberLow (take 4 (drop 4 u)) + 5 * numberLow (take 4 (drop 8 u)) + 7 * numberLow (take 4 (drop 12 u)))
     % 4294967296 * 2654435769 % 4294967296 * 24576 / 4294967296
 
--- where the member of number v stands, in a batch whose first stands at base: blocks of 16 bytes, counted from 1
+-- where the member of block v stands, in a batch whose first stands at base: blocks of 16 bytes, counted from 1
 abbrev pub placeOf : ℕ → ℕ → ℕ
 placeOf base v = base + 16 * (v - 1)
 
@@ -38,7 +38,7 @@ abbrev pub Other : List ℕ → ℕ → List ℕ → List ℕ → ℕ → Type 0
 Other s base slots u i = Taken slots i × (idAt s (placeOf base (getD slots i 0)) ≡ u → ⊥)
 
 -- there are 26,624 slots, and what is taken stands in s
-pub record Fits (s : List ℕ) (base : ℕ) (slots : List ℕ) : Type 0 where
+pub record Slots (s : List ℕ) (base : ℕ) (slots : List ℕ) : Type 0 where
   pub long : length slots ≡ 26624
   pub inside : (i : ℕ) → Taken slots i → base + 16 * getD slots i 0 ≤ length s
 
@@ -48,7 +48,7 @@ Looks s base slots u Known = (i : ℕ) × Holds s base slots u i
 Looks s base slots u (Free i) = (startOf u ≤ i) × (i < 26624) × (getD slots i 0 ≡ 0) × ((j : ℕ) → startOf u ≤ j → j < i → Other s base slots u j)
 Looks s base slots u Full = (j : ℕ) → startOf u ≤ j → j < 26624 → Other s base slots u j
 
--- the slots before and after; true: number v has taken a free slot
+-- the slots before and after; true: block v has taken a free slot
 abbrev pub TakenIn : List ℕ → Bool → Look → ℕ → List ℕ → Bool → Type 0
 TakenIn slots g l v t true = (i : ℕ) × (l ≡ Free i) × (g ≡ true) × (t ≡ set slots i v)
 TakenIn slots g l v t false = t ≡ slots

@@ -2,7 +2,7 @@
 use Prim.Native.Nat.{ℕ, zero, suc, _+_, _<_}
 use mathlib.Core.Path.{_≡_}
 use mathlib.Core.Bool.{Bool, cond, _&&_}
-use mathlib.Core.List.{List, [], _∷_}
+use mathlib.Core.List.{List, [], _∷_, _++_}
 use lib.Dec.{eqb, leb}
 use lib.ListN.{length, getD}
 use Rattle.fields.specs.Stored.{roomOf}
@@ -14,12 +14,14 @@ use Rattle.uuids.specs.declared.Repeat.the-variants.{At, Nothing}
 abbrev pub isUuidAt : List ℕ → ℕ → Bool
 isUuidAt s p = eqb (kindAt s p) 0x01 && eqb (lenAt s p) 16
 
+-- its data, where it is one
+abbrev pub uuidAt : List ℕ → ℕ → List (List ℕ)
+uuidAt s p = cond (isUuidAt s p) (dataAt s p ∷ []) []
+
 -- the data of those of the fields from place p on that are UUIDs, as far as s divides into fields; at most n fields are looked at
 unfoldable pub uuidsAmong : ℕ → List ℕ → ℕ → List (List ℕ)
 uuidsAmong zero s p = []
-uuidsAmong (suc n) s p =
-    cond (leb (p + roomOf (lenAt s p)) (length s))
-    (cond (isUuidAt s p) (dataAt s p ∷ uuidsAmong n s (p + roomOf (lenAt s p))) (uuidsAmong n s (p + roomOf (lenAt s p)))) []
+uuidsAmong (suc n) s p = cond (leb (p + roomOf (lenAt s p)) (length s)) (uuidAt s p ++ uuidsAmong n s (p + roomOf (lenAt s p))) []
 
 -- never more than there are bytes
 unfoldable pub uuidsFrom : List ℕ → ℕ → List (List ℕ)

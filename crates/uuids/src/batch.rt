@@ -8,9 +8,9 @@ use super::table::take_in;
 ghost use mathlib.Core.Path.{_≡_};
 ghost use Prim.Native.Nat.{_+_, _≤_, _<_};
 ghost use lib.ListN.{length};
-ghost use Rattle.uuids.specs.Batches.{Empty, Passing, wentTo};
+ghost use Rattle.uuids.specs.Batches.{NoMembers, Passing, wentTo};
 
-// The first number below the limit whose UUID a member has, else the limit; the place behind the last member's field; how many members there are.
+// The first number below the limit whose UUID an earlier member has, else the limit; the place behind the last member's field; how many members there are.
 pub struct Went {
     pub best: usize,
     pub next: usize,
@@ -28,14 +28,15 @@ fn outcome(best: usize, next: usize, members: usize) -> Went
 }
 
 fn no_members() -> [u16; 26624]
-    ensures { λ r. ⌜ Empty r ⌝ }
+    ensures { λ r. ⌜ NoMembers r ⌝ }
 {
     [0u16; 26624]
 }
 
-// The batch that begins with the UUID at base, which has this number.
+// The batch that begins with the UUID at base, which has this number. Those from the limit on do not matter: an earlier batch has found a repetition there.
+// From a UUID's place its field goes on for 27 bytes: the 16, and 11 of fill.
 fn pass(body: &[u8], base: usize, number: usize, limit: usize, slots: &mut [u16]) -> Went
-    requires { ⌜ (base + 27 ≤ length (now body)) × (number < limit) × Empty (now slots) ⌝ }
+    requires { ⌜ (base + 27 ≤ length (now body)) × (number < limit) × NoMembers (now slots) ⌝ }
     ensures { λ r. ⌜ Passing (now (body .entry)) base number limit r ⌝ }
 {
     let first = start(body, base);
@@ -64,6 +65,7 @@ fn pass(body: &[u8], base: usize, number: usize, limit: usize, slots: &mut [u16]
     outcome(limit, next, members)
 }
 
+// The same, with a table of its own.
 pub fn batch(body: &[u8], base: usize, number: usize, limit: usize) -> Went
     requires { ⌜ (base + 27 ≤ length (now body)) × (number < limit) ⌝ }
     ensures { λ r. ⌜ Passing (now (body .entry)) base number limit r ⌝ }

@@ -1,4 +1,4 @@
-// The next UUID from a place on: from field to field by the lengths alone.
+// The next UUID from a place on: from field to field by the lengths alone, since every batch goes over all later fields again.
 ghost use mathlib.Core.Path.{_≡_};
 ghost use mathlib.Core.Bool.{_&&_};
 ghost use lib.Dec.{eqb};
@@ -20,6 +20,7 @@ fn is_uuid(kind: u8, len: u32) -> bool
     false
 }
 
+// Where no field fits any more, none follows.
 pub fn next_uuid(body: &[u8], from: usize) -> Next
     ensures { λ r. ⌜ Stepping (now (body .entry)) from r ⌝ }
 {

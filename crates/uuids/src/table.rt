@@ -1,10 +1,11 @@
 // The members of a batch in an open table: a UUID takes the first free slot from where its bytes say on.
-// A slot holds 0 where it is free, else one more than the blocks from the first member to its own.
+// Look-ups start in the first 24,576 slots and go on for up to 2,048 more behind them, so that none has to turn round.
+// A slot holds 0 where it is free, else its member's block: one more than the blocks from the first member to it.
 ghost use mathlib.Core.Path.{_≡_};
 ghost use Prim.Native.Nat.{_+_, _≤_, _<_};
 ghost use lib.ListN.{length, take, drop};
 ghost use Rattle.words.specs.Numbers.{numberLow};
-ghost use Rattle.uuids.specs.Table.{idAt, startOf, Tells, Fits, Looks, TakenIn};
+ghost use Rattle.uuids.specs.Table.{idAt, startOf, Tells, Slots, Looks, TakenIn};
 
 // A member has these 16 bytes; or none has, and this slot is free for them, or no slot is.
 pub enum Look {
@@ -29,7 +30,7 @@ fn half(s: &[u8], p: usize) -> u64
     words::numbers::joined(word(s, p), word(s, p + 4))
 }
 
-// The 16 bytes at p are those at q.
+// The 16 bytes at p are those at q. By halves: two compares for most, where byte by byte takes up to 16.
 fn same_at(s: &[u8], p: usize, q: usize) -> bool
     requires { ⌜ (p + 16 ≤ length (now s)) × (q + 16 ≤ length (now s)) ⌝ }
     ensures { λ r. ⌜ Tells r (idAt (now (s .entry)) p ≡ idAt (now (s .entry)) q) ⌝ }
@@ -55,7 +56,7 @@ pub fn start(s: &[u8], p: usize) -> usize
 
 // The look-up of the 16 bytes at p in the table of a batch whose first member stands at base.
 pub fn look_up(s: &[u8], base: usize, slots: &[u16], p: usize) -> Look
-    requires { ⌜ Fits (now s) base (now slots) × (p + 16 ≤ length (now s)) ⌝ }
+    requires { ⌜ Slots (now s) base (now slots) × (p + 16 ≤ length (now s)) ⌝ }
     ensures { λ r. ⌜ Looks (now (s .entry)) base (now (slots .entry)) (idAt (now (s .entry)) p) r ⌝ }
 {
     let mut i = start(s, p);
@@ -72,7 +73,7 @@ pub fn look_up(s: &[u8], base: usize, slots: &[u16], p: usize) -> Look
     Look::Full
 }
 
-// One member more where the batch is growing, a slot is free and its number fits; whether it became one.
+// One member more where the batch is growing, a slot is free and its block fits 16 bits; whether it became one.
 pub fn take_in(slots: &mut [u16], growing: bool, l: Look, v: usize) -> bool
     requires { ⌜ length (now slots) ≡ 26624 ⌝ }
     ensures { λ r. ⌜ TakenIn (now (slots .entry)) growing l v (now (slots .exit)) r ⌝ }

@@ -28,6 +28,10 @@ bytes-number (more {b = b} {s = s} h t) =
     let q : (b + 256 * numberLow s) / 256 ≡ numberLow s = omega arith in
     ap₂ _∷_ p (ap (bytesLow (length s)) q ∙ bytes-number t)
 
+-- as many bytes of the same number are the same bytes
+pub number-inj : {d u : List ℕ} → Bytes d → Bytes u → length d ≡ length u → numberLow d ≡ numberLow u → d ≡ u
+number-inj x y l e = sym (bytes-number x) ∙ ap₂ bytesLow l e ∙ bytes-number y
+
 pub number-fits : {s : List ℕ} → Bytes s → numberLow s < 2 ^ (8 * length s)
 unfolding numberLow
 number-fits none = omega arith

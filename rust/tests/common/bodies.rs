@@ -14,6 +14,14 @@ pub fn part(kind: u8, data: &[u8]) -> Part {
     Part { kind, data: data.to_vec() }
 }
 
+pub fn version() -> Part {
+    part(0x00, &[0x0e, 0x03])
+}
+
+pub fn end() -> Part {
+    part(END, &[])
+}
+
 pub fn field(random: &mut Random, part: &Part) -> Vec<u8> {
     let fill = random.bytes(fill_needed(part.data.len()));
     stored(part.kind, &part.data, &fill)

@@ -19,8 +19,7 @@ returns c =
 returns-2 : tie.Need-returns-2
 returns-2 c =
     let a = c .before .before .before .before .args in
-    let bytes : Bytes (a .s .now) = bytes-of (a .s .now) (λ i. omega (arith, c .before .before .before .shared-slice-known .given i)) in
-    same-not (a .s .now) bytes (a .p) (a .q) (c .before .before .before .before .pre .0) (c .before .before .before .before .pre .1) (λ e. c .if1 .left (c .before .before .half .ensures ∙ e ∙ sym (c .before .half2 .ensures)))
+    same-not (a .s .now) (a .p) (a .q) (λ e. c .if1 .left (c .before .before .half .ensures ∙ e ∙ sym (c .before .half2 .ensures)))
 
 pub same-at-spec : {M : Type 1} → statement M
 same-at-spec =
