@@ -108,7 +108,7 @@ sections-out h [] k r = rw (header h .1 k)
 sections-out h (q ∷ rs) k r = rw (header h .1 k) (records-out (q ∷ rs) r)
 
 -- the records between the first run and the last
-in-sections : (h : List Stored) (rs us : List (List Stored)) → us ≡ h ∷ (rs ++ ([] ∷ [])) → recordsIn us ≡ rs
+pub in-sections : (h : List Stored) (rs us : List (List Stored)) → us ≡ h ∷ (rs ++ ([] ∷ [])) → recordsIn us ≡ rs
 in-sections h rs us e =
     let n : length rs ≡ length (rs ++ ([] ∷ [])) - 1 = simp length-append (omega arith) in
     ap recordsIn e ∙ take-at rs ([] ∷ []) (length (rs ++ ([] ∷ [])) - 1) n

@@ -5,7 +5,7 @@ use mathlib.Core.Logic.{_↔_}
 use mathlib.Core.Bool.{Bool, true, false, not, false≢true}
 use mathlib.Core.List.{List, [], _∷_, map}
 use native.Mathlib.Omega.{arith}
-use lib.ListN.{length, getD}
+use lib.ListN.{length, getD, length-map}
 use Rattle.words.specs.Each.{allIn}
 use Rattle.words.specs.Slices.{same}
 use Rattle.words.proofs.EachLaws.{both, and, each, each-at, each-from}
@@ -47,17 +47,13 @@ uuids-at [] k l = absurd (omega arith)
 uuids-at (r ∷ rs) zero l = refl
 uuids-at (r ∷ rs) (suc k) l = uuids-at rs k (omega arith)
 
-uuids-long : (rs : List (List Stored)) → length (map uuidOf rs) ≡ length rs
-uuids-long [] = refl
-uuids-long (r ∷ rs) = ap suc (uuids-long rs)
-
 pub uuids-differ : (rs : List (List Stored))
     → (distinct (map uuidOf rs) ≡ true) ↔ ((i j : ℕ) → i < j → j < length rs → uuidOf (getD rs i []) ≡ uuidOf (getD rs j []) → ⊥)
 uuids-differ rs = (
   λ d i j h l e.
-      distinct-apart (map uuidOf rs) d j i (omega (arith, uuids-long rs)) h (uuids-at rs i (omega arith) ∙ e ∙ sym (uuids-at rs j l)),
+      distinct-apart (map uuidOf rs) d j i (omega (arith, length-map rs uuidOf)) h (uuids-at rs i (omega arith) ∙ e ∙ sym (uuids-at rs j l)),
   λ f. apart-distinct (map uuidOf rs) (λ i j l h e.
-      let k : i < length rs = omega (arith, uuids-long rs) in
+      let k : i < length rs = omega (arith, length-map rs uuidOf) in
       f j i h k (sym (uuids-at rs j (omega arith)) ∙ e ∙ uuids-at rs i k)),
 )
 

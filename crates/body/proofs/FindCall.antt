@@ -43,7 +43,6 @@ record First (a b n p : ℕ) (rs : List (List Stored)) (m q : ℕ) : Type 0 wher
   number : m ≡ n + length before
   place : q ≡ p + placeBehind before
   it : has a b found ≡ true
-  not-before : Each (λ r. has a b r ≡ false) before
 
 module _ (a b : ℕ) where
   first-at : (n p : ℕ) (rs : List (List Stored)) (m q : ℕ) → firstWith a b n p rs ≡ At m q → First a b n p rs m q
@@ -56,7 +55,7 @@ module _ (a b : ℕ) where
       by true h e ih =
           let i : m ≡ n = cc in
           let j : q ≡ p = cc in
-          record { before = []; found = r; others = rs; parts = refl; number = omega arith; place = omega arith; it = h; not-before = tt }
+          record { before = []; found = r; others = rs; parts = refl; number = omega arith; place = omega arith; it = h }
       by false h e ih =
           let x = ih e in
           record {
@@ -67,7 +66,6 @@ module _ (a b : ℕ) where
             number = omega (arith, x .number);
             place = omega (arith, x .place);
             it = x .it;
-            not-before = (h, x .not-before);
           }
 
   first-none : (n p : ℕ) (rs : List (List Stored)) → firstWith a b n p rs ≡ Nowhere → Each (λ r. has a b r ≡ false) rs

@@ -8,21 +8,17 @@ use lib.Dec.{eqb}
 use lib.ListN.{length, take, drop, length-take, length-drop, take-append-drop}
 use lib.Seq.{take-all}
 use borrow.Author.Tests.{eqb-true, eq-eqb}
-use Rattle.words.specs.Numbers.{numberLow, bytesLow, Bytes, Sized}
+use Rattle.words.specs.Numbers.{numberLow, Bytes, Sized}
 use Rattle.words.proofs.EachLaws.{both}
 use Rattle.words.proofs.ByteLaws.{bytes-take, bytes-drop}
-use Rattle.words.proofs.NumberLaws.{bytes-number}
+use Rattle.words.proofs.NumberLaws.{number-inj}
 use Rattle.body.specs.Find.{isUuid}
-
-module _ (d u : List ℕ) (x : Bytes d) (y : Bytes u) where
-  number-inj : length d ≡ length u → numberLow d ≡ numberLow u → d ≡ u
-  number-inj l e = sym (bytes-number x) ∙ ap₂ bytesLow l e ∙ bytes-number y
 
 halves-inj : (d u : List ℕ) → Bytes d → Sized 16 u → length d ≡ 16 → numberLow (take 8 d) ≡ numberLow (take 8 u) → numberLow (take 8 (drop 8 d)) ≡ numberLow (take 8 (drop 8 u)) → d ≡ u
 halves-inj d u x y l e f =
     let z = y .long in
-    let i : take 8 d ≡ take 8 u = number-inj (take 8 d) (take 8 u) (bytes-take 8 x) (bytes-take 8 (y .bytes)) (simp length-take (omega arith)) e in
-    let j : take 8 (drop 8 d) ≡ take 8 (drop 8 u) = number-inj (take 8 (drop 8 d)) (take 8 (drop 8 u)) (bytes-take 8 (bytes-drop 8 x)) (bytes-take 8 (bytes-drop 8 (y .bytes))) (simp (length-take, length-drop) (omega arith)) f in
+    let i : take 8 d ≡ take 8 u = number-inj (bytes-take 8 x) (bytes-take 8 (y .bytes)) (simp length-take (omega arith)) e in
+    let j : take 8 (drop 8 d) ≡ take 8 (drop 8 u) = number-inj (bytes-take 8 (bytes-drop 8 x)) (bytes-take 8 (bytes-drop 8 (y .bytes))) (simp (length-take, length-drop) (omega arith)) f in
     let a : take 8 (drop 8 d) ≡ drop 8 d = take-all 8 (drop 8 d) (omega (arith, length-drop 8 d)) in
     let b : take 8 (drop 8 u) ≡ drop 8 u = take-all 8 (drop 8 u) (omega (arith, length-drop 8 u)) in
     sym (take-append-drop 8 d) ∙ ap₂ _++_ i (sym a ∙ j ∙ b) ∙ take-append-drop 8 u

@@ -1,4 +1,4 @@
--- Fill, unknown types and unexpected lengths do not decide acceptance: field by field, what the clauses count and measure in each section stays the same.
+-- Fill, unknown types and unexpected lengths do not decide acceptance: field by field, what the clauses count, measure and compare in each section stays the same.
 use Prim.Native.Nat.{ℕ, suc, _+_, _-_, _≤_, min}
 use mathlib.Core.Path.{_≡_, refl, sym, ap, ap₂, _∙_}
 use mathlib.Core.Logic.{_↔_}

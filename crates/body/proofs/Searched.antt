@@ -22,11 +22,7 @@ use Rattle.body.specs.declared.Sought.the-variants.{At, NotWellFormed}
 use Rattle.body.specs.declared.Found.{Found}
 use Rattle.body.specs.declared.search.Progress.{Progress}
 use Rattle.body.proofs.Along.{taken-stop}
-use Rattle.body.proofs.Sectioned.{inside, afterEnd, taken-behind, Left, left-start, left-turn, left-stop, good-start, taken-all, is-formed}
-
--- an END is no UUID
-end-no-uuid : (f : Stored) → isEnd f ≡ true → eqb (f .kind) 0x01 ≡ false
-end-no-uuid f h = let k = eqb-true (f .kind) 0xff h in ne-eqb (f .kind) 0x01 (λ e. omega arith)
+use Rattle.body.proofs.Sectioned.{end-no-uuid, inside, afterEnd, taken-behind, Left, left-start, left-turn, left-stop, good-start, taken-all, is-formed}
 
 none-first : (u : List Stored) → count 0x01 u ≤ 0 → firstData 0x01 u ≡ []
 unfolding firstData

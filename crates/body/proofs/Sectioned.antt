@@ -1,7 +1,7 @@
 -- The records of a body one by one: the fields that the walk takes at a place say where the next record starts and what stands at its spots, by recursion on them; and where
 -- sections of a body are left, the first of them is the record there. These are the laws for a loop over records: start, turn, stop.
 use Prim.Native.Nat.{ℕ, _+_, _-_, _<_, _≤_}
-use mathlib.Core.Path.{_≡_, refl, sym, ap, _∙_}
+use mathlib.Core.Path.{_≡_, refl, sym, ap, ap₂, _∙_, subst}
 use mathlib.Core.Bool.{Bool, true, false, cond, not, _&&_, false≢true}
 use mathlib.Core.Logic.{inl, inr}
 use mathlib.Core.List.{List, [], _∷_, _++_}
@@ -25,9 +25,13 @@ use Rattle.body.specs.WellFormed.{GoodRecord}
 use Rattle.body.specs.Decision.{storedAt, fieldsOf, takenFrom, exactFrom, endsEmpty, versionFirst, formed, wellFormed, headerIn, recordsIn}
 use Rattle.body.specs.RecordAt.{beforeEnd, behindEnd, spotOf, recordAt, contentAt}
 use Rattle.body.proofs.Division.{stored-long, data-long}
-use Rattle.body.proofs.Decided.{sections-in}
+use Rattle.body.proofs.Decided.{sections-in, in-sections}
 use Rattle.body.proofs.Verdict.{some-run}
 use Rattle.body.proofs.Along.{taken-took, taken-else, taken-stop, taken-fits, taken-no-data, next-place, walkable-all}
+
+-- an END is no UUID
+pub end-no-uuid : (f : Stored) → isEnd f ≡ true → eqb (f .kind) 0x01 ≡ false
+end-no-uuid f h = ap (λ (k : ℕ). eqb k 0x01) (eqb-true (f .kind) 0xff h)
 
 -- in a record at place p
 abbrev pub inside : ℕ → Cursor
@@ -230,18 +234,20 @@ module _ (s : List ℕ) where
       let y = both (endsEmpty (fieldsOf s)) _ (x .1) in
       let z = both (versionFirst (fieldsOf s)) _ (y .1) in
       let t = sections-in (runs (fieldsOf s)) (z .1) in
-      let rs = t .1 in
-      let n : length rs ≡ length (rs ++ ([] ∷ [])) - 1 = simp length-append (omega arith) in
-      (x .0, y .0, rw (t .2, take-at rs ([] ∷ []) (length (rs ++ ([] ∷ [])) - 1) n), rw (t .2, take-at rs ([] ∷ []) (length (rs ++ ([] ∷ [])) - 1) n) (t .4))
+      let i : recordsIn (runs (fieldsOf s)) ≡ t .1 = in-sections (t .0) (t .1) (runs (fieldsOf s)) (t .2) in
+      (x .0, y .0, t .2 ∙ ap₂ (λ (h : List Stored) (rs : List (List Stored)). h ∷ (rs ++ ([] ∷ []))) (sym (ap headerIn (t .2))) (sym i), subst (Each GoodRecord) (sym i) (t .4))
 
   pub taken-all : formed s ≡ true → takenFrom s 0 ≡ fieldsOf s
   taken-all h = walkable-all (fieldsOf s) (sections-are h .1)
 
+  -- of a body that divides exactly, with ENDs that are empty, all sections are left at its start
+  pub left-whole : (h : List Stored) (rs : List (List Stored)) → exactFrom s 0 ≡ true → endsEmpty (fieldsOf s) ≡ true → runs (fieldsOf s) ≡ h ∷ (rs ++ ([] ∷ [])) → Left s 0 (h ∷ rs)
+  left-whole h rs x y e =
+      let all : takenFrom s 0 ≡ fieldsOf s = walkable-all (fieldsOf s) y in
+      record { reach = ap (λ (l : List Stored). 0 + length (joined l)) all ∙ eqb-true _ _ x; parted = ap runs all ∙ e }
+
   pub left-start : formed s ≡ true → Left s 0 (headerIn (runs (fieldsOf s)) ∷ recordsIn (runs (fieldsOf s)))
-  left-start h =
-      let x = sections-are h in
-      let all : takenFrom s 0 ≡ fieldsOf s = taken-all h in
-      record { reach = ap (λ (l : List Stored). 0 + length (joined l)) all ∙ eqb-true _ _ (x .0); parted = ap runs all ∙ x .2 }
+  left-start h = let x = sections-are h in left-whole _ _ (x .0) (x .1) (x .2)
 
   pub good-start : formed s ≡ true → Each GoodRecord (recordsIn (runs (fieldsOf s)))
   good-start h = sections-are h .3

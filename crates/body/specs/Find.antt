@@ -13,8 +13,8 @@ use Rattle.fields.specs.Walk.{walkOf}
 use Rattle.fields.specs.declared.Cursor.{Cursor}
 use Rattle.fields.specs.declared.Walked.the-variants.{Took}
 use Rattle.body.specs.Division.{joined}
-use Rattle.body.specs.Sections.{isEnd, runs, firstData}
-use Rattle.body.specs.WellFormed.{WellFormed}
+use Rattle.body.specs.Sections.{isEnd, runs}
+use Rattle.body.specs.WellFormed.{WellFormed, uuidOf}
 use Rattle.body.specs.Decision.{fieldsOf, wellFormed, headerIn, recordsIn}
 use Rattle.body.specs.declared.Sought.{Sought}
 use Rattle.body.specs.declared.Sought.the-variants.{At, Nowhere, NotWellFormed}
@@ -26,7 +26,7 @@ isUuid d a b = eqb (length d) 16 && (eqb (numberLow (take 8 d)) a && eqb (number
 
 -- a record has the UUID when its first field of type 01 has these 16 bytes
 abbrev pub has : ℕ → ℕ → List Stored → Bool
-has a b r = isUuid (firstData 0x01 r) a b
+has a b r = isUuid (uuidOf r) a b
 
 -- among records of which the first is number n and starts at place p; each takes its fields' bytes and those of its END
 unfoldable pub firstWith : ℕ → ℕ → ℕ → ℕ → List (List Stored) → Sought
@@ -71,7 +71,7 @@ placeBehind (u ∷ us) = length (joined u) + 16 + placeBehind us
 
 -- a record's field of type 01 has the bytes uuid as its data; there is one such field
 abbrev pub HasUuid : List ℕ → List Stored → Type 0
-HasUuid uuid r = firstData 0x01 r ≡ uuid
+HasUuid uuid r = uuidOf r ≡ uuid
 
 -- the body is well formed, and its record of number n, at place p, is the only one that has the UUID
 pub record FoundAt (body uuid : List ℕ) (n p : ℕ) : Type 0 where

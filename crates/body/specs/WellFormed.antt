@@ -1,4 +1,4 @@
--- The well-formed body: document 01's sentence, clause by clause.
+-- The well-formed body: document 01's sentence, clause by clause, and document 02's clause on UUIDs (Q-7).
 use Prim.Native.Nat.{ℕ, _<_, _≤_}
 use mathlib.Core.Path.{_≡_}
 use mathlib.Core.List.{List, [], _∷_, _++_}
