@@ -75,15 +75,21 @@
  *
  * talc_judge() says whether a body is well formed, and talc_read(),
  * talc_write(), talc_find() and talc_export() judge it before they go on.
- * They look up its UUIDs in a table on the stack: each of these calls uses up
- * to 60 KB of stack, whatever the body's length. A test holds them to 64 KB.
+ * They look up its UUIDs in a table on the stack: each of these calls takes
+ * some 54,600 bytes of stack, 53,248 of them the table, whatever the body's
+ * length. A test holds them to 64 KB.
  *
+ * UUIDs are taken in by batches, and for each batch the fields from its first
+ * UUID on are gone over once. A batch goes on for 65,535 blocks, 1 MB of body;
+ * where UUIDs were chosen to collide it may end before, but not before 2,049
+ * of them are in it. So a file has 4 batches at most, or 26 with such UUIDs.
  * For n records, at most n * (n - 1) / 2 pairs of UUIDs are compared, whatever
- * the UUIDs are; ordinary ones, random or counted up, need a few compares
- * each. For the 52,425 records that the longest file can hold, UUIDs that were
- * chosen to collide cost some seconds, and change no answer. A body that
- * talc_judge(), talc_find() or talc_export() is handed may be longer than a
- * file's; there the time of chosen UUIDs grows with the square of the records.
+ * the UUIDs are; ordinary ones, random or counted up, need a few compares in
+ * each batch. For the 52,425 records that the longest file can hold, UUIDs
+ * that were chosen to collide cost some seconds, and change no answer.
+ * A body that talc_judge(), talc_find() or talc_export() is handed may be
+ * longer than a file's: there the time grows with the square of its length,
+ * whatever its UUIDs are.
  */
 #ifndef TALCFEATHER_H
 #define TALCFEATHER_H
@@ -105,8 +111,9 @@ extern "C" {
  *
  * 2: talc_find() counts the fields that it visits.
  * 3: two records with the same UUID are 9 wherever a body is judged; before,
- *    they were accepted, and talc_find() found the first. Judging takes more
- *    stack.
+ *    they were accepted, and talc_find() found the first. The calls that judge
+ *    take more stack: a test held talc_read(), talc_write() and talc_export()
+ *    to 16 KB, and holds all five to 64 KB now.
  */
 #define TALC_VERSION 3
 
@@ -224,7 +231,7 @@ static inline uint64_t talc_number(const uint8_t *p)
  * nor fill: an accepted file is not proved to be the file that was saved.
  * The time taken grows with ITER up to `ceiling`; 1 to 7 come before any
  * stretching. The caller wipes workspace and answer when done with them. Time
- * and stack of judging are said above.
+ * and stack of judging: see "Judging", above.
  */
 uint32_t talc_read(const uint8_t *file, size_t file_len,
                    const uint8_t *passphrase, size_t passphrase_len,
@@ -249,7 +256,8 @@ uint32_t talc_read(const uint8_t *file, size_t file_len,
  *
  * Accepted (0): the output holds the file (body_len + 200 bytes), then zeros
  * to its end.
- * Refused: the whole output is zero. Time and stack of judging are said above.
+ * Refused: the whole output is zero. Time and stack of judging: see "Judging",
+ * above.
  */
 uint32_t talc_write(const uint8_t *passphrase, size_t passphrase_len,
                     const uint8_t salt[32], uint32_t iter,
@@ -346,8 +354,8 @@ uint32_t talc_append(uint8_t *buffer, size_t buffer_len,
  *    0  number of header fields, the END not counted
  *    8  number of records
  *
- * Refused: the answer is zero. Nothing else is written. Time and stack are said
- * above, under "Judging".
+ * Refused: the answer is zero. Nothing else is written. Time and stack: see
+ * "Judging", above.
  */
 uint32_t talc_judge(const uint8_t *body, size_t body_len,
                     uint8_t answer[TALC_JUDGE_ANSWER]);
@@ -368,7 +376,7 @@ uint32_t talc_judge(const uint8_t *body, size_t body_len,
  *       decides, or the last END where there is none.
  *
  * The number at 24 is at most body_len / 16. The test that the body is well
- * formed is not counted; its time and stack are said above, under "Judging".
+ * formed is not counted. Time and stack of it: see "Judging", above.
  *
  * None: the numbers at 0, 8 and 16 are 0; the one at 24 is that of all fields
  * of the body. Refused: the answer is zero. Nothing else is written.
@@ -465,7 +473,8 @@ uint32_t talc_standing(const uint8_t *state, size_t state_len,
  * Refused: the output is unchanged. For 9 and 3 the answer is zero; for 18 the
  * number at 0 is 0.
  *
- * The output must not overlap the body. Time and stack of judging are said above.
+ * The output must not overlap the body. Time and stack of judging: see
+ * "Judging", above.
  */
 uint32_t talc_export(const uint8_t *body, size_t body_len,
                      uint32_t now,

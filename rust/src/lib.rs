@@ -1,7 +1,9 @@
 //! Reads and writes Password Safe V3 files in lent memory.
 //!
 //! Every call is one call of a proved static library; this crate turns its numbers into
-//! Rust values and adds nothing else. It allocates nothing and needs no `std`.
+//! Rust values and adds nothing else. It allocates nothing and needs no `std`. [`read`], [`write`],
+//! [`judge`], [`find`] and [`export`] take some 54,600 bytes of stack; a thread that calls them needs
+//! as much.
 //! `include/talcfeather.h` says what each call does; here is what it looks like:
 //!
 //! ```

@@ -14,6 +14,7 @@ use peer::hmac::hmac;
 use peer::random::Random;
 use peer::safe::{assemble, Parts, MARKER};
 use peer::twofish::Twofish;
+use std::collections::HashSet;
 
 /// The body of Version, END and these records.
 fn with_records(random: &mut Random, records: &[Vec<Part>]) -> Vec<u8> {
@@ -563,4 +564,73 @@ fn files_of_few_uuids() {
         met.same(judged, judge_theirs(&body), body.len());
     }
     met.each_of(&[0, 9], 100);
+}
+
+/// The number of the first UUID that an earlier one is the same as.
+fn again(uuids: &[Uuid]) -> Option<usize> {
+    let mut met = HashSet::new();
+    uuids.iter().position(|uuid| !met.insert(uuid))
+}
+
+/// The layer below judging tells which record it is: of none to four doubles the first, from the
+/// first record on and from any other.
+#[test]
+fn the_first_is_told() {
+    let random = &mut Random(22);
+    let slot = |random: &mut Random| (0..4100).map(|_| chosen(random, 24_575)).collect();
+    let mut lists: Vec<Vec<Uuid>> = vec![vec![], slot(random)];
+    for count in [1, 2, 3, 200, 13_106, 13_107, 13_108, 40_000, MOST_RECORDS] {
+        lists.extend(kinds(random, count));
+    }
+    for mut uuids in lists {
+        for _ in 0..5 {
+            let (body, from) = (body_with(random, &uuids), random.below(uuids.len() + 1));
+            assert_eq!(probe::repeated(&body, 32), again(&uuids));
+            assert_eq!(probe::repeated(&body, 32 + 80 * from), again(&uuids[from..]));
+            if !uuids.is_empty() {
+                let (one, other) = (random.below(uuids.len()), random.below(uuids.len()));
+                uuids[one] = uuids[other];
+            }
+        }
+    }
+}
+
+/// The UUIDs that stand in any bytes from a place on, as far as the fields go.
+fn standing(body: &[u8], mut place: usize) -> Vec<Uuid> {
+    let mut uuids = vec![];
+    while let Some(head) = body.get(place..).and_then(|rest| rest.first_chunk::<5>()) {
+        let [length @ .., kind] = *head;
+        let length = u32::from_le_bytes(length) as usize;
+        if body.len() - place < size(length) {
+            break;
+        }
+        if kind == 0x01 {
+            uuids.extend(Uuid::try_from(&body[place + 5..place + 5 + length]));
+        }
+        place += size(length);
+    }
+    uuids
+}
+
+/// So it is of any bytes and any place: bodies of few UUIDs, cut, with a byte changed, and from a place
+/// at which no field starts.
+#[test]
+fn the_first_is_told_of_any_bytes() {
+    let (random, mut told) = (&mut Random(23), 0);
+    for _ in 0..20_000 {
+        let (mut body, _) = of_few(random);
+        if random.one_in(2) {
+            body.truncate(random.below(body.len() + 1));
+        }
+        if random.one_in(2) && !body.is_empty() {
+            let at = random.below(body.len());
+            body[at] = random.number() as u8;
+        }
+        let (any, beyond) = (random.below(body.len() + 1), body.len() + random.below(40));
+        let from = random.pick(&[0, 16, 32, any, beyond, usize::MAX]);
+        let ours = probe::repeated(&body, from);
+        assert_eq!(ours, again(&standing(&body, from)));
+        told += usize::from(ours.is_some());
+    }
+    assert!(told > 2000, "{told} with a repetition");
 }

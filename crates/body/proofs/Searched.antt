@@ -7,7 +7,6 @@ use native.Mathlib.Nat.{add-zero, zero-add}
 use native.Mathlib.Omega.{arith}
 use lib.Dec.{eqb}
 use lib.ListN.{length}
-use borrow.Author.Tests.{eqb-true, ne-eqb}
 use Rattle.words.specs.Each.{Each}
 use Rattle.fields.specs.Stored.{Stored, roomOf}
 use Rattle.body.specs.Division.{joined}

@@ -1,6 +1,6 @@
 -- The records of a body one by one: the fields that the walk takes at a place say where the next record starts and what stands at its spots, by recursion on them; and where
 -- sections of a body are left, the first of them is the record there. These are the laws for a loop over records: start, turn, stop.
-use Prim.Native.Nat.{ℕ, _+_, _-_, _<_, _≤_}
+use Prim.Native.Nat.{ℕ, _+_, _<_, _≤_}
 use mathlib.Core.Path.{_≡_, refl, sym, ap, ap₂, _∙_, subst}
 use mathlib.Core.Bool.{Bool, true, false, cond, not, _&&_, false≢true}
 use mathlib.Core.Logic.{inl, inr}
@@ -9,7 +9,6 @@ use native.Mathlib.Nat.{add-zero}
 use native.Mathlib.Omega.{arith}
 use lib.Dec.{eqb}
 use lib.ListN.{length, take, drop, length-append}
-use lib.Seq.{take-at}
 use borrow.Author.Tests.{eqb-true}
 use Rattle.words.specs.Each.{Each}
 use Rattle.words.proofs.EachLaws.{both}

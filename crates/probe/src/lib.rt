@@ -1,13 +1,17 @@
 // The layers under the reader at the C boundary, for tests and benchmarks alone: the product does not link them.
 use stretch::Stretcher;
+use uuids::Repeat;
 ghost use mathlib.Core.Path.{_≡_};
 ghost use Prim.Native.Nat.{_<_, _≤_};
+ghost use lib.ListN.{length};
 ghost use Rattle.sha256.specs.Sha256.{sha256};
 ghost use Rattle.sha256.specs.Hmac.{hmacOf};
 ghost use Rattle.stretch.specs.Stretch.{startOf, stretchedOf, keyOf};
 ghost use Rattle.chain.specs.Modes.{cbcE, cbcD};
 ghost use Rattle.chain.specs.Memory.{encryptedInto, decryptedInPlace, Handed};
 ghost use Rattle.chain.specs.Twofish.{twofishCipher};
+ghost use Rattle.uuids.specs.Uuids.{uuidsFrom, Repeats};
+ghost use Rattle.uuids.specs.Batches.{answerOf};
 
 #[no_mangle]
 pub extern "C" fn probe_hash(m: &[u8], out: &mut [u8; 32])
@@ -93,4 +97,16 @@ pub extern "C" fn probe_encrypt(key: &[u8; 32], iv: &[u8; 16], from: &[u8], to: 
     ensures { λ _. ⌜ now (to .exit) ≡ encryptedInto (cbcE twofishCipher (now (key .entry))) (now (iv .entry)) (now (from .entry)) (now (to .entry)) ⌝ }
 {
     chain::cbc_encrypt(key, iv, from, to);
+}
+
+// The number of the first UUID, from the place on, that an earlier one is the same as; the number of bytes where no two are.
+#[no_mangle]
+pub extern "C" fn probe_repeated(body: &[u8], from: usize) -> usize
+    ensures { λ r. ⌜ Repeats (uuidsFrom (now (body .entry)) from) (answerOf r (length (now (body .entry)))) ⌝ }
+{
+    let none = body.len();
+    let Repeat::At(number) = uuids::repeated(body, from) else {
+        return none;
+    };
+    number
 }

@@ -1,5 +1,5 @@
 -- The UUIDs from a place on, and the first that comes again, on short bodies: one equation of lists, computed by the definitions, and an answer of each kind.
-use Prim.Native.Nat.{ℕ, zero, suc, _<_}
+use Prim.Native.Nat.{ℕ, zero, suc}
 use mathlib.Core.Path.{_≡_, refl, ap}
 use mathlib.Core.List.{List, [], _∷_, _++_, map}
 use native.Mathlib.Omega.{arith}

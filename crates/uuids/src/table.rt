@@ -82,6 +82,7 @@ pub fn take_in(slots: &mut [u16], growing: bool, l: Look, v: usize) -> bool
         return false;
     };
     if growing {
+        // look_up gives no other i, but nothing says so here
         if i < 26624 {
             if v < 65536 {
                 slots[i] = v as u16;

@@ -32,6 +32,7 @@ mod raw {
             to: *mut u8,
             room: usize,
         );
+        pub fn probe_repeated(body: *const u8, n: usize, from: usize) -> usize;
     }
 }
 
@@ -76,4 +77,10 @@ pub fn decrypt(key: &[u8; 32], iv: &[u8; 16], text: &mut [u8]) -> u64 {
 pub fn encrypt(key: &[u8; 32], iv: &[u8; 16], from: &[u8], to: &mut [u8]) {
     let (room, to) = (to.len(), to.as_mut_ptr());
     unsafe { raw::probe_encrypt(key, iv, from.as_ptr(), from.len(), to, room) }
+}
+
+/// The number of the first UUID, from the place on, that an earlier one is the same as.
+pub fn repeated(body: &[u8], from: usize) -> Option<usize> {
+    let number = unsafe { raw::probe_repeated(body.as_ptr(), body.len(), from) };
+    (number != body.len()).then_some(number)
 }
