@@ -33,7 +33,7 @@ fn no_members() -> [u16; 26624]
     [0u16; 26624]
 }
 
-// The batch that begins with the UUID at base, which has this number. Those from the limit on do not matter: an earlier batch has found a repetition there.
+// The batch that begins with the UUID at base, which has this number. Those from the limit on do not matter: an earlier batch has found a repetition there, or there are none.
 // From a UUID's place its field goes on for 27 bytes: the 16, and 11 of fill.
 fn pass(body: &[u8], base: usize, number: usize, limit: usize, slots: &mut [u16]) -> Went
     requires { ⌜ (base + 27 ≤ length (now body)) × (number < limit) × NoMembers (now slots) ⌝ }

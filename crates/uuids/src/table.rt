@@ -30,7 +30,7 @@ fn half(s: &[u8], p: usize) -> u64
     words::numbers::joined(word(s, p), word(s, p + 4))
 }
 
-// The 16 bytes at p are those at q. By halves: two compares for most, where byte by byte takes up to 16.
+// The 16 bytes at p are those at q. By halves: one compare for most, and two at most.
 fn same_at(s: &[u8], p: usize, q: usize) -> bool
     requires { ⌜ (p + 16 ≤ length (now s)) × (q + 16 ≤ length (now s)) ⌝ }
     ensures { λ r. ⌜ Tells r (idAt (now (s .entry)) p ≡ idAt (now (s .entry)) q) ⌝ }
