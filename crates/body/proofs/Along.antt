@@ -14,42 +14,38 @@ use denote.Enum.Declared.{tagOf}
 use borrow.Author.Tests.{le-leb, leb-true, eq-eqb, eqb-true, ne-eqb}
 use Rattle.words.proofs.EachLaws.{both}
 use Rattle.fields.specs.Stored.{Stored, bytesOf, roomOf}
-use Rattle.fields.specs.Walk.{walkOf, lenAt, kindAt, endWithData, fieldAt, after}
+use Rattle.fields.specs.Step.{lenAt, kindAt, endWithData, stepOf}
 use Rattle.fields.specs.declared.Cursor.{Cursor}
-use Rattle.fields.specs.declared.Field.{Field}
-use Rattle.fields.specs.declared.Walked.{Walked}
-use Rattle.fields.specs.declared.Walked.the-variants.{Took}
-use Rattle.fields.proofs.Walked as walked
-use Rattle.fields.proofs.Outcomes.{taken, took, forward}
+use Rattle.fields.specs.declared.Stepped.{Stepped}
+use Rattle.fields.specs.declared.Stepped.the-variants.{Took}
+use Rattle.fields.proofs.Stepped as a-step
+use Rattle.fields.proofs.Outcomes.{taken, took, next-place, forward}
 use Rattle.body.specs.Division.{joined}
 use Rattle.body.specs.Decision.{storedAt, fits, fieldsFrom, walkable, takenFrom, exactFrom, endsEmpty}
 use Rattle.body.proofs.Division.{from-fits, from-none, stored-long, data-long}
 
 -- the walk takes a field
-module _ (s : List ℕ) (c : Cursor) (f : Field) (d : Cursor) (e : walkOf s c ≡ Took f d) where
+module _ (s : List ℕ) (c : Cursor) (kind len : ℕ) (d : Cursor) (e : stepOf s c ≡ Took kind len d) where
   pub taken-fits : fits s (c .place) ≡ true
-  taken-fits = le-leb (c .place + roomOf (lenAt s (c .place))) (length s) (taken s c f d e .inside)
-
-  pub next-place : d .place ≡ c .place + roomOf (lenAt s (c .place))
-  next-place = ap (λ (x : Cursor). x .place) (taken s c f d e .next)
+  taken-fits = le-leb (c .place + roomOf (lenAt s (c .place))) (length s) (taken s c kind len d e .inside)
 
   -- it is the next of the fields
   pub from-took : fieldsFrom s (c .place) ≡ storedAt s (c .place) ∷ fieldsFrom s (d .place)
-  from-took = from-fits s (c .place) taken-fits ∙ ap (λ (p : ℕ). storedAt s (c .place) ∷ fieldsFrom s p) (sym next-place)
+  from-took = from-fits s (c .place) taken-fits ∙ ap (λ (p : ℕ). storedAt s (c .place) ∷ fieldsFrom s p) (sym (next-place s c kind len d e))
 
-  pub taken-kind : f .kind ≡ storedAt s (c .place) .kind
-  taken-kind = ap (λ (x : Field). x .kind) (taken s c f d e .field)
+  pub taken-kind : kind ≡ storedAt s (c .place) .kind
+  taken-kind = taken s c kind len d e .kind
 
-  pub taken-length : f .len ≡ length (storedAt s (c .place) .content)
-  taken-length = ap (λ (x : Field). x .len) (taken s c f d e .field) ∙ sym (data-long s (c .place) taken-fits)
+  pub taken-length : len ≡ length (storedAt s (c .place) .content)
+  taken-length = taken s c kind len d e .len ∙ sym (data-long s (c .place) taken-fits)
 
   pub taken-no-data : endWithData (storedAt s (c .place) .kind) (length (storedAt s (c .place) .content)) ≡ false
-  taken-no-data = rw (data-long s (c .place) taken-fits) (taken s c f d e .no-data)
+  taken-no-data = rw (data-long s (c .place) taken-fits) (taken s c kind len d e .no-data)
 
   pub exact-took : exactFrom s (c .place) ≡ exactFrom s (d .place)
   exact-took =
       ap (λ (l : List Stored). eqb (c .place + length (joined l)) (length s)) from-took
-      ∙ ap (λ (n : ℕ). eqb n (length s)) (rw (length-append (bytesOf (storedAt s (c .place))) (joined (fieldsFrom s (d .place))), stored-long s (c .place) taken-fits, next-place) (omega arith))
+      ∙ ap (λ (n : ℕ). eqb n (length s)) (rw (length-append (bytesOf (storedAt s (c .place))) (joined (fieldsFrom s (d .place))), stored-long s (c .place) taken-fits, next-place s c kind len d e) (omega arith))
 
 pub from-end : (s : List ℕ) (c : Cursor) → length s ≤ c .place → fieldsFrom s (c .place) ≡ []
 from-end s c h = from-none s (c .place) (no (leb (c .place + roomOf (lenAt s (c .place))) (length s)) refl)
@@ -59,10 +55,10 @@ from-end s c h = from-none s (c .place) (no (leb (c .place + roomOf (lenAt s (c 
     no false e = e
 
 -- the walk takes no field: the field's blocks are not within the body, or it is an END with data
-module _ (s : List ℕ) (c : Cursor) (w : Walked) (q : w ≡ walkOf s c) (al : c .place % 16 ≡ 0) (o : OneOf (1 ∷ 2 ∷ 3 ∷ []) (tagOf walked.the-type w)) where
-  none-taken : (f : Field) (d : Cursor) → walkOf s c ≡ Took f d → ⊥
-  none-taken f d e =
-      let t : OneOf (1 ∷ 2 ∷ 3 ∷ []) (tagOf walked.the-type (Took f d)) = rw (q ∙ e) at o in
+module _ (s : List ℕ) (c : Cursor) (w : Stepped) (q : w ≡ stepOf s c) (al : c .place % 16 ≡ 0) (o : OneOf (1 ∷ 2 ∷ 3 ∷ []) (tagOf a-step.the-type w)) where
+  none-taken : (kind len : ℕ) (d : Cursor) → stepOf s c ≡ Took kind len d → ⊥
+  none-taken kind len d e =
+      let t : OneOf (1 ∷ 2 ∷ 3 ∷ []) (tagOf a-step.the-type (Took kind len d)) = rw (q ∙ e) at o in
       ⊎-elim (λ z. omega arith) (⊎-elim (λ z. omega arith) (λ z. omega arith)) t
 
   pub untaken : (fits s (c .place) ≡ false)
@@ -78,7 +74,7 @@ module _ (s : List ℕ) (c : Cursor) (w : Walked) (q : w ≡ walkOf s c) (al : c
       by true e true g = inr (from-fits s (c .place) e, rw (data-long s (c .place) e) g)
       by true e false g =
           let r = leb-true (c .place + roomOf (lenAt s (c .place))) (length s) e in
-          absurd (none-taken (fieldAt s c) (after s c) (took s c al (omega arith) (λ z. omega arith) (omega arith) (omega arith) g))
+          absurd (none-taken _ _ _ (took s c al (omega arith) (λ z. omega arith) (omega arith) (omega arith) g))
 
 -- before the end, a field that is not within the body
 pub cut-off : (s : List ℕ) (p : ℕ) → fits s p ≡ false → p < length s → exactFrom s p ≡ false
@@ -111,14 +107,14 @@ walkable-all (f ∷ fs) h =
     by true h = absurd (false≢true h)
     by false h = refl
 
-pub taken-took : (s : List ℕ) (c : Cursor) (f : Field) (d : Cursor) → walkOf s c ≡ Took f d → takenFrom s (c .place) ≡ storedAt s (c .place) ∷ takenFrom s (d .place)
-taken-took s c f d e =
-    aligned-from s (c .place) (taken s c f d e .aligned)
-    ∙ ap walkable (from-took s c f d e)
-    ∙ walkable-no _ _ (taken-no-data s c f d e)
-    ∙ ap (_∷_ (storedAt s (c .place))) (sym (aligned-from s (d .place) (forward s c f d e .2)))
+pub taken-took : (s : List ℕ) (c : Cursor) (kind len : ℕ) (d : Cursor) → stepOf s c ≡ Took kind len d → takenFrom s (c .place) ≡ storedAt s (c .place) ∷ takenFrom s (d .place)
+taken-took s c kind len d e =
+    aligned-from s (c .place) (taken s c kind len d e .aligned)
+    ∙ ap walkable (from-took s c kind len d e)
+    ∙ walkable-no _ _ (taken-no-data s c kind len d e)
+    ∙ ap (_∷_ (storedAt s (c .place))) (sym (aligned-from s (d .place) (forward s c kind len d e .2)))
 
-pub taken-else : (s : List ℕ) (c : Cursor) (w : Walked) → w ≡ walkOf s c → OneOf (1 ∷ 2 ∷ 3 ∷ []) (tagOf walked.the-type w) → takenFrom s (c .place) ≡ []
+pub taken-else : (s : List ℕ) (c : Cursor) (w : Stepped) → w ≡ stepOf s c → OneOf (1 ∷ 2 ∷ 3 ∷ []) (tagOf a-step.the-type w) → takenFrom s (c .place) ≡ []
 taken-else s c w q o = by (eqb (c .place % 16) 0) refl
   where
     by : (b : Bool) → eqb (c .place % 16) 0 ≡ b → cond b (walkable (fieldsFrom s (c .place))) [] ≡ []
@@ -136,10 +132,10 @@ taken-stop s c h = by (eqb (c .place % 16) 0)
 
 -- A loop that folds any step along them keeps this: with the fields that are left, go comes to y. It starts at y = go of all.
 module _ {A : Type 0} (go : List Stored → A) (y : A) (s : List ℕ) (c : Cursor) (k : go (takenFrom s (c .place)) ≡ y) where
-  pub fold-took : (f : Field) (d : Cursor) → walkOf s c ≡ Took f d → go (storedAt s (c .place) ∷ takenFrom s (d .place)) ≡ y
-  fold-took f d e = ap go (sym (taken-took s c f d e)) ∙ k
+  pub fold-took : (kind len : ℕ) (d : Cursor) → stepOf s c ≡ Took kind len d → go (storedAt s (c .place) ∷ takenFrom s (d .place)) ≡ y
+  fold-took kind len d e = ap go (sym (taken-took s c kind len d e)) ∙ k
 
-  pub fold-else : (w : Walked) → w ≡ walkOf s c → OneOf (1 ∷ 2 ∷ 3 ∷ []) (tagOf walked.the-type w) → go [] ≡ y
+  pub fold-else : (w : Stepped) → w ≡ stepOf s c → OneOf (1 ∷ 2 ∷ 3 ∷ []) (tagOf a-step.the-type w) → go [] ≡ y
   fold-else w q o = ap go (sym (taken-else s c w q o)) ∙ k
 
   pub fold-stop : length s ≤ c .place → go [] ≡ y

@@ -13,7 +13,7 @@ use Rattle.words.specs.Each.{Each}
 use Rattle.words.proofs.EachLaws.{both, and, equal, at-most, each, where-equal}
 use Rattle.words.specs.Numbers.{Bytes}
 use Rattle.fields.specs.Stored.{Stored}
-use Rattle.fields.specs.Walk.{endWithData}
+use Rattle.fields.specs.Step.{endWithData}
 use Rattle.body.specs.Division.{Divides}
 use Rattle.body.specs.Sections.{runs, count, covered}
 use Rattle.body.specs.WellFormed.{VersionFirst, onceInHeader, One, GoodRecord, uuidOf, WellFormed}

@@ -15,7 +15,7 @@ use Rattle.words.specs.Numbers.{bytesLow, Bytes}
 use Rattle.words.proofs.ByteLaws.{bytes-take, bytes-drop, byte-at}
 use Rattle.words.proofs.NumberLaws.{bytes-number, number-fits}
 use Rattle.fields.specs.Stored.{Stored, bytesOf, roomOf, fillOf}
-use Rattle.fields.specs.Walk.{lenAt, kindAt, dataAt}
+use Rattle.fields.specs.Step.{lenAt, kindAt, dataAt}
 use Rattle.fields.proofs.Outcomes.{room-fill}
 use Rattle.fields.proofs.Back.{bytes-long, len-back, kind-back, data-back, fill-back}
 use Rattle.body.specs.Division.{Whole, joined, Divides}

@@ -16,9 +16,12 @@ use Rattle.words.proofs.Either.{lt-or-ge}
 use Rattle.words.specs.Numbers.{numberLow, Bytes, none, Sized}
 use Rattle.fields.specs.Stored.{Stored}
 use Rattle.fields.specs.Value.{valueOf}
-use Rattle.fields.specs.Walk.{walkOf, fieldAt, after, kindAt, dataAt}
+use Rattle.fields.specs.Step.{lenAt, kindAt, dataAt, after}
+use Rattle.fields.specs.Walk.{fieldBy, walkOf}
 use Rattle.fields.specs.declared.Field.{Field}
 use Rattle.fields.specs.declared.Walked.the-variants.{Took}
+use Rattle.fields.proofs.Valued.{valued}
+use Rattle.fields.proofs.Back.{shown}
 use Rattle.body.specs.Division.{Whole, joined}
 use Rattle.body.specs.Sections.{isEnd, push, runs, count, firstData}
 use Rattle.body.specs.WellFormed.{GoodRecord, uuidOf, WellFormed}
@@ -132,13 +135,13 @@ pub record FirstField (s : List ℕ) (p : ℕ) (u : List Stored) : Type 0 where
   field : Stored
   rest : List Stored
   fields : u ≡ field ∷ rest
-  taken : walkOf s (inside p) ≡ Took (record { kind = field .kind; place = p; len = length (field .content); value = valueOf true (field .kind) (field .content) }) (after s (inside p))
+  taken : walkOf s (inside p) ≡ Took (shown valueOf true p field) (after s (inside p))
 
 first-field : (s : List ℕ) (p : ℕ) (u : List Stored) (us : List (List Stored)) → Left s p (u ∷ us) → count 0x01 u ≡ 1 → FirstField s p u
 unfolding beforeEnd
 first-field s p u us l c = by (takenFrom s p) refl (left-turn s p u us l .here)
   where
-    shows : (f : Stored) (fs : List Stored) → Next s p f fs → fieldAt s (inside p) ≡ record { kind = f .kind; place = p; len = length (f .content); value = valueOf true (f .kind) (f .content) }
+    shows : (f : Stored) (fs : List Stored) → Next s p f fs → fieldBy valueOf s (inside p) (kindAt s p) (lenAt s p) ≡ shown valueOf true p f
     shows f fs n =
         let k : kindAt s p ≡ f .kind = ap (λ (x : Stored). x .kind) (sym (n .is)) in
         let d : dataAt s p ≡ f .content = ap (λ (x : Stored). x .content) (sym (n .is)) in
@@ -151,7 +154,7 @@ first-field s p u us l c = by (takenFrom s p) refl (left-turn s p u us l .here)
         end : (t : Bool) → cond t [] (f ∷ beforeEnd fs) ≡ u → Next s p f fs → FirstField s p u
         end true h n = absurd (omega (arith, ap (count 0x01) h, c))
         end false h n =
-            record { field = f; rest = beforeEnd fs; fields = sym h; taken = n .walks ∙ ap (λ (x : Field). Took x (after s (inside p))) (shows f fs n) }
+            record { field = f; rest = beforeEnd fs; fields = sym h; taken = valued valueOf s (inside p) _ (n .walks) ∙ ap (λ (x : Field). Took x (after s (inside p))) (shows f fs n) }
 
 -- two records with one UUID are one, since those of different records differ
 module _ (rs : List (List Stored)) (d : (i j : ℕ) → i < j → j < length rs → uuidOf (getD rs i []) ≡ uuidOf (getD rs j []) → ⊥) where

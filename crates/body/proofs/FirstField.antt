@@ -1,4 +1,4 @@
--- Whether the first field is Version, by what the walk at the start gives; and that with it the sections decide: by the cases of the walk's answer.
+-- Whether the first field is Version, by what the step at the start gives; and that with it the sections decide: by the cases of the step's answer.
 use Prim.Native.Nat.{ℕ, _+_}
 use mathlib.Core.Path.{_≡_, refl, sym, ap, _∙_}
 use mathlib.Core.Logic.{⊎-elim}
@@ -12,12 +12,11 @@ use types.Run.{OneOf}
 use denote.Enum.Declared.{tagOf}
 use borrow.Author.Tests.{eqb-true}
 use Rattle.fields.specs.Stored.{roomOf}
-use Rattle.fields.specs.Walk.{walkOf, start, lenAt}
+use Rattle.fields.specs.Step.{start, lenAt, stepOf}
 use Rattle.fields.specs.declared.Cursor.{Cursor}
-use Rattle.fields.specs.declared.Field.{Field}
-use Rattle.fields.specs.declared.Walked.{Walked}
-use Rattle.fields.specs.declared.Walked.the-variants.{Took}
-use Rattle.fields.proofs.Walked as walked
+use Rattle.fields.specs.declared.Stepped.{Stepped}
+use Rattle.fields.specs.declared.Stepped.the-variants.{Took}
+use Rattle.fields.proofs.Stepped as a-step
 use Rattle.fields.proofs.Outcomes.{taken}
 use Rattle.body.specs.Decision.{storedAt, fieldsFrom, fieldsOf, exactFrom, endsEmpty, versionFirst, formed, headersOf, recordsOf, formedOf}
 use Rattle.body.specs.Tally.{sectionsOf}
@@ -25,13 +24,12 @@ use Rattle.body.specs.declared.Judged.the-variants.{Counts, NotWellForme
 use Rattle.body.proofs.Division.{from-none}
 use Rattle.body.proofs.Along.{from-took, taken-length, taken-kind, untaken}
 
-pub version-took : (s : List ℕ) (f : Field) (d : Cursor) → walkOf s start ≡ Took f d
-    → cond (eqb (f .kind) 0x00) (cond (eqb (f .len) 2) (eqb (getD s 6 0) 0x03) false) false ≡ versionFirst (fieldsOf s)
-version-took s f d e =
-    let l = taken-length s start f d e in
-    let len : f .len ≡ lenAt s 0 = ap (λ (x : Field). x .len) (taken s start f d e .field) in
-    rw (from-took s start f d e, ← l, ← taken-kind s start f d e)
-    (by (eqb (f .kind) 0x00) (eqb (f .len) 2) (λ x. second (sym len ∙ eqb-true (f .len) 2 x)))
+pub version-took : (s : List ℕ) (kind len : ℕ) (d : Cursor) → stepOf s start ≡ Took kind len d
+    → cond (eqb kind 0x00) (cond (eqb len 2) (eqb (getD s 6 0) 0x03) false) false ≡ versionFirst (fieldsOf s)
+version-took s kind len d e =
+    let l = taken-length s start kind len d e in
+    rw (from-took s start kind len d e, ← l, ← taken-kind s start kind len d e)
+    (by (eqb kind 0x00) (eqb len 2) (λ x. second (sym (taken s start kind len d e .len) ∙ eqb-true len 2 x)))
   where
     second : lenAt s 0 ≡ 2 → getD s 6 0 ≡ getD (storedAt s 0 .content) 1 0
     second x = sym (getD-take (lenAt s 0) (drop (0 + 5) s) 1 0 (omega arith) ∙ getD-drop (0 + 5) s 1 0)
@@ -42,7 +40,7 @@ version-took s f d e =
     by true false h = refl
     by true true h = ap (λ (n : ℕ). eqb n 0x03) (h refl)
 
-pub version-none : (s : List ℕ) (w : Walked) → w ≡ walkOf s start → OneOf (1 ∷ 2 ∷ 3 ∷ []) (tagOf walked.the-type w) → false ≡ versionFirst (fieldsOf s)
+pub version-none : (s : List ℕ) (w : Stepped) → w ≡ stepOf s start → OneOf (1 ∷ 2 ∷ 3 ∷ []) (tagOf a-step.the-type w) → false ≡ versionFirst (fieldsOf s)
 version-none s w q o =
     ⊎-elim (λ e. ap versionFirst (sym (from-none s 0 e)))
     (λ e. no-version (eqb-true (storedAt s 0 .kind) 0xff (left (eqb (storedAt s 0 .kind) 0xff) _ (e .1))) ∙ ap versionFirst (sym (e .0)))

@@ -11,13 +11,12 @@ use types.Run.{OneOf}
 use denote.Enum.Declared.{tagOf}
 use borrow.Author.Tests.{eq-eqb}
 use Rattle.fields.specs.Stored.{Stored, roomOf}
-use Rattle.fields.specs.Walk.{walkOf}
+use Rattle.fields.specs.Step.{stepOf}
 use Rattle.fields.specs.declared.Cursor.{Cursor}
-use Rattle.fields.specs.declared.Field.{Field}
-use Rattle.fields.specs.declared.Walked.{Walked}
-use Rattle.fields.specs.declared.Walked.the-variants.{Took}
-use Rattle.fields.proofs.Outcomes.{forward, data-inside}
-use Rattle.fields.proofs.Walked as walked
+use Rattle.fields.specs.declared.Stepped.{Stepped}
+use Rattle.fields.specs.declared.Stepped.the-variants.{Took}
+use Rattle.fields.proofs.Outcomes.{forward, next-place}
+use Rattle.fields.proofs.Stepped as a-step
 use Rattle.body.specs.Sections.{isEnd}
 use Rattle.body.specs.Decision.{storedAt, takenFrom}
 use Rattle.body.specs.RecordAt.{beforeEnd, behindEnd, spotOf, firstsOf, recordAt}
@@ -27,7 +26,7 @@ use Rattle.body.specs.declared.records.Spot.the-variants.{At, Absent}
 use Rattle.body.specs.declared.records.Firsts.{Firsts}
 use Rattle.body.specs.declared.records.Record.{Record}
 use Rattle.body.proofs.Division.{data-long}
-use Rattle.body.proofs.Along.{taken-kind, taken-length, taken-fits, next-place, fold-took, fold-else, fold-stop}
+use Rattle.body.proofs.Along.{taken-kind, taken-length, taken-fits, fold-took, fold-else, fold-stop}
 
 -- what was found, or else the first among the fields v from place q on
 abbrev together : Firsts → ℕ → List Stored → Firsts
@@ -92,30 +91,30 @@ module _ (s : List ℕ) (p : ℕ) (c : Cursor) (x : Firsts) (n : ℕ) (t : Keeps
   pub keeps-stop : length s ≤ c .place → record { next = c .place; fields = n; firsts = x } ≡ recordAt s p
   keeps-stop h = sym (whole-none (c .place) n x) ∙ fold-stop (whole (c .place) n x) _ s c (t .rest) h
 
-  pub keeps-else : (w : Walked) → w ≡ walkOf s c → OneOf (1 ∷ 2 ∷ 3 ∷ []) (tagOf walked.the-type w) → record { next = c .place; fields = n; firsts = x } ≡ recordAt s p
+  pub keeps-else : (w : Stepped) → w ≡ stepOf s c → OneOf (1 ∷ 2 ∷ 3 ∷ []) (tagOf a-step.the-type w) → record { next = c .place; fields = n; firsts = x } ≡ recordAt s p
   keeps-else w q o = sym (whole-none (c .place) n x) ∙ fold-else (whole (c .place) n x) _ s c (t .rest) w q o
 
-  module _ (f : Field) (d : Cursor) (e : walkOf s c ≡ Took f d) where
+  module _ (kind len : ℕ) (d : Cursor) (e : stepOf s c ≡ Took kind len d) where
     next : whole (c .place) n x (storedAt s (c .place) ∷ takenFrom s (d .place)) ≡ recordAt s p
-    next = fold-took (whole (c .place) n x) _ s c (t .rest) f d e
+    next = fold-took (whole (c .place) n x) _ s c (t .rest) kind len d e
 
     far : c .place + roomOf (length (storedAt s (c .place) .content)) ≡ d .place
-    far = ap (λ (m : ℕ). c .place + roomOf m) (data-long s (c .place) (taken-fits s c f d e)) ∙ sym (next-place s c f d e)
+    far = ap (λ (m : ℕ). c .place + roomOf m) (data-long s (c .place) (taken-fits s c kind len d e)) ∙ sym (next-place s c kind len d e)
 
-    kind-is : (b : Bool) → eqb (f .kind) 0xff ≡ b → isEnd (storedAt s (c .place)) ≡ b
-    kind-is b k = ap (λ (i : ℕ). eqb i 0xff) (sym (taken-kind s c f d e)) ∙ k
+    kind-is : (b : Bool) → eqb kind 0xff ≡ b → isEnd (storedAt s (c .place)) ≡ b
+    kind-is b k = ap (λ (i : ℕ). eqb i 0xff) (sym (taken-kind s c kind len d e)) ∙ k
 
-    pub keeps-end : f .kind ≡ 0xff → record { next = d .place; fields = n; firsts = x } ≡ recordAt s p
+    pub keeps-end : kind ≡ 0xff → record { next = d .place; fields = n; firsts = x } ≡ recordAt s p
     keeps-end k =
         ap (λ (q : ℕ). record { next = q; fields = n; firsts = x }) (sym far)
-        ∙ sym (whole-end (c .place) n x (storedAt s (c .place)) (takenFrom s (d .place)) (kind-is true (eq-eqb (f .kind) 0xff k))) ∙ next
+        ∙ sym (whole-end (c .place) n x (storedAt s (c .place)) (takenFrom s (d .place)) (kind-is true (eq-eqb kind 0xff k))) ∙ next
 
-    pub keeps-took : eqb (f .kind) 0xff ≡ false → (x′ : Firsts) → x′ ≡ firstsWith x (f .kind) (f .place + 5) (f .len) → Keeps s p d x′ (n + 1)
+    pub keeps-took : eqb kind 0xff ≡ false → (x′ : Firsts) → x′ ≡ firstsWith x kind (c .place + 5) len → Keeps s p d x′ (n + 1)
     keeps-took k x′ h =
         let g = storedAt s (c .place) in
-        let y : x′ ≡ firstsWith x (g .kind) (c .place + 5) (length (g .content)) = h ∙ rw (taken-kind s c f d e, data-inside s c f d e .0, taken-length s c f d e) in
+        let y : x′ ≡ firstsWith x (g .kind) (c .place + 5) (length (g .content)) = h ∙ rw (taken-kind s c kind len d e, taken-length s c kind len d e) in
         record {
-          few = omega (arith, t .few, forward s c f d e .0);
+          few = omega (arith, t .few, forward s c kind len d e .0);
           rest = ap (λ (z : Firsts). whole (d .place) (n + 1) z (takenFrom s (d .place))) y
               ∙ ap (λ (q : ℕ). whole q (n + 1) (firstsWith x (g .kind) (c .place + 5) (length (g .content))) (takenFrom s (d .place))) (sym far)
               ∙ sym (whole-field (c .place) n x g (takenFrom s (d .place)) (kind-is false k)) ∙ next;

@@ -15,7 +15,7 @@ use Rattle.words.specs.Numbers.{Bytes, more}
 use Rattle.words.proofs.ByteLaws.{bytes-append}
 use Rattle.words.proofs.NumberLaws.{bytes-sized}
 use Rattle.fields.specs.Stored.{Stored}
-use Rattle.fields.specs.Walk.{endWithData}
+use Rattle.fields.specs.Step.{endWithData}
 use Rattle.body.specs.Division.{Whole, joined, Divides}
 use Rattle.body.specs.Sections.{isEnd, push, runs, count, firstData, covered}
 use Rattle.body.specs.WellFormed.{onceInHeader, uuidOf, WellFormed}

@@ -13,11 +13,11 @@ use borrow.Author.Tests.{eqb-true}
 use Rattle.words.specs.Each.{Each}
 use Rattle.words.proofs.EachLaws.{both}
 use Rattle.fields.specs.Stored.{Stored, bytesOf, roomOf}
-use Rattle.fields.specs.Walk.{walkOf, lenAt, endWithData, fieldAt, after}
+use Rattle.fields.specs.Step.{lenAt, kindAt, endWithData, after, stepOf}
 use Rattle.fields.specs.declared.Cursor.{Cursor}
-use Rattle.fields.specs.declared.Walked.{Walked}
-use Rattle.fields.specs.declared.Walked.the-variants.{Took, Finished, Misplaced, Broken}
-use Rattle.fields.proofs.Outcomes.{taken, forward}
+use Rattle.fields.specs.declared.Stepped.{Stepped}
+use Rattle.fields.specs.declared.Stepped.the-variants.{Took, Finished, Misplaced, Broken}
+use Rattle.fields.proofs.Outcomes.{taken, forward, next-place}
 use Rattle.body.specs.Division.{joined}
 use Rattle.body.specs.Sections.{isEnd, runs, firstData}
 use Rattle.body.specs.WellFormed.{GoodRecord}
@@ -26,7 +26,7 @@ use Rattle.body.specs.RecordAt.{beforeEnd, behindEnd, spotOf, recordAt, 
 use Rattle.body.proofs.Division.{stored-long, data-long}
 use Rattle.body.proofs.Decided.{sections-in, in-sections}
 use Rattle.body.proofs.Verdict.{some-run}
-use Rattle.body.proofs.Along.{taken-took, taken-else, taken-stop, taken-fits, taken-no-data, next-place, walkable-all}
+use Rattle.body.proofs.Along.{taken-took, taken-else, taken-stop, taken-fits, taken-no-data, walkable-all}
 
 -- an END is no UUID
 pub end-no-uuid : (f : Stored) → isEnd f ≡ true → eqb (f .kind) 0x01 ≡ false
@@ -38,7 +38,7 @@ inside p = record { place = p; «in_record» = true }
 
 -- The walk takes f at p, and then fs.
 pub record Next (s : List ℕ) (p : ℕ) (f : Stored) (fs : List Stored) : Type 0 where
-  pub walks : walkOf s (inside p) ≡ Took (fieldAt s (inside p)) (after s (inside p))
+  pub walks : stepOf s (inside p) ≡ Took (kindAt s p) (lenAt s p) (after s (inside p))
   pub is : f ≡ storedAt s p
   pub long : length (f .content) ≡ lenAt s p
   pub blocks : length (bytesOf f) ≡ roomOf (length (f .content))
@@ -47,27 +47,27 @@ pub record Next (s : List ℕ) (p : ℕ) (f : Stored) (fs : List Stored) : Type 
   pub rest : takenFrom s (p + roomOf (length (f .content))) ≡ fs
 
 pub taken-next : (s : List ℕ) (p : ℕ) (f : Stored) (fs : List Stored) → takenFrom s p ≡ f ∷ fs → Next s p f fs
-taken-next s p f fs e = by (walkOf s (inside p)) refl
+taken-next s p f fs e = by (stepOf s (inside p)) refl
   where
     none : takenFrom s p ≡ [] → Next s p f fs
     none h = absurd (omega (arith, ap length (sym h ∙ e)))
 
-    by : (w : Walked) → walkOf s (inside p) ≡ w → Next s p f fs
-    by (Took g d) w =
-        let z : storedAt s p ∷ takenFrom s (d .place) ≡ f ∷ fs = sym (taken-took s (inside p) g d w) ∙ e in
+    by : (w : Stepped) → stepOf s (inside p) ≡ w → Next s p f fs
+    by (Took kind len d) w =
+        let z : storedAt s p ∷ takenFrom s (d .place) ≡ f ∷ fs = sym (taken-took s (inside p) kind len d w) ∙ e in
         let i : f ≡ storedAt s p = cc in
-        let l = data-long s p (taken-fits s (inside p) g d w) in
+        let l = data-long s p (taken-fits s (inside p) kind len d w) in
         let n : length (f .content) ≡ lenAt s p = ap (λ (x : Stored). length (x .content)) i ∙ l in
-        let q : d .place ≡ p + roomOf (length (f .content)) = next-place s (inside p) g d w ∙ ap (λ (m : ℕ). p + roomOf m) (sym n) in
+        let q : d .place ≡ p + roomOf (length (f .content)) = next-place s (inside p) kind len d w ∙ ap (λ (m : ℕ). p + roomOf m) (sym n) in
         let r : takenFrom s (d .place) ≡ fs = cc in
-        let t = taken s (inside p) g d w in
+        let t = taken s (inside p) kind len d w in
         record {
-          walks = w ∙ rw (t .field, t .next);
+          walks = w ∙ rw (t .kind, t .len, t .next);
           is = i;
           long = n;
-          blocks = ap (λ (x : Stored). length (bytesOf x)) i ∙ stored-long s p (taken-fits s (inside p) g d w) ∙ ap roomOf (sym n);
-          no-data = ap (λ (x : Stored). endWithData (x .kind) (length (x .content))) i ∙ taken-no-data s (inside p) g d w;
-          within = omega (arith, q, forward s (inside p) g d w .1);
+          blocks = ap (λ (x : Stored). length (bytesOf x)) i ∙ stored-long s p (taken-fits s (inside p) kind len d w) ∙ ap roomOf (sym n);
+          no-data = ap (λ (x : Stored). endWithData (x .kind) (length (x .content))) i ∙ taken-no-data s (inside p) kind len d w;
+          within = omega (arith, q, forward s (inside p) kind len d w .1);
           rest = ap (takenFrom s) (sym q) ∙ r;
         }
     by Finished w = none (taken-else s (inside p) Finished (sym w) (inl refl))

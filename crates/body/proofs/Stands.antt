@@ -12,12 +12,11 @@ use types.Run.{OneOf}
 use denote.Enum.Declared.{tagOf}
 use borrow.Author.Tests.{eq-eqb, not-false}
 use Rattle.fields.specs.Stored.{Stored, roomOf}
-use Rattle.fields.specs.Walk.{walkOf, start, lenAt}
+use Rattle.fields.specs.Step.{start, lenAt, stepOf}
 use Rattle.fields.specs.declared.Cursor.{Cursor}
-use Rattle.fields.specs.declared.Field.{Field}
-use Rattle.fields.specs.declared.Walked.{Walked}
-use Rattle.fields.specs.declared.Walked.the-variants.{Took}
-use Rattle.fields.proofs.Walked as walked
+use Rattle.fields.specs.declared.Stepped.{Stepped}
+use Rattle.fields.specs.declared.Stepped.the-variants.{Took}
+use Rattle.fields.proofs.Stepped as a-step
 use Rattle.fields.proofs.Outcomes.{taken, forward}
 use Rattle.body.specs.Sections.{isEnd}
 use Rattle.body.specs.Decision.{storedAt, fieldsFrom, exactFrom, none}
@@ -47,7 +46,7 @@ zero false = refl
 
 module _ (s : List ℕ) (c : Cursor) (x : Section) (h n : ℕ) (t : Stands s c x h n) where
   -- the walk takes no field
-  pub stands-broken : (w : Walked) → w ≡ walkOf s c → c .place < length s → OneOf (1 ∷ 2 ∷ 3 ∷ []) (tagOf walked.the-type w) → NotWellFormed ≡ sectionsOf s
+  pub stands-broken : (w : Stepped) → w ≡ stepOf s c → c .place < length s → OneOf (1 ∷ 2 ∷ 3 ∷ []) (tagOf a-step.the-type w) → NotWellFormed ≡ sectionsOf s
   stands-broken w q l o =
       let r = c .«in_record» in
       ⊎-elim
@@ -86,20 +85,20 @@ module _ (s : List ℕ) (c : Cursor) (x : Section) (h n : ℕ) (t : Stands s c x
         by true false = refl
         by false r = refl
 
-  module _ (f : Field) (d : Cursor) (e : walkOf s c ≡ Took f d) where
+  module _ (kind len : ℕ) (d : Cursor) (e : stepOf s c ≡ Took kind len d) where
     -- in a record, after this field
     passed : (b : Bool) → isEnd (storedAt s (c .place)) ≡ b → d .«in_record» ≡ c .«in_record» || b
-    passed b k = ap (λ (y : Cursor). y .«in_record») (taken s c f d e .next) ∙ ap (_||_ (c .«in_record»)) k
+    passed b k = ap (λ (y : Cursor). y .«in_record») (taken s c kind len d e .next) ∙ ap (_||_ (c .«in_record»)) k
 
     next : verdict (t .right) (c .«in_record») (t .cur) h n (exactFrom s (d .place)) (storedAt s (c .place) ∷ fieldsFrom s (d .place)) ≡ sectionsOf s
     next =
-        ap (λ (b : Bool). verdict (t .right) (c .«in_record») (t .cur) h n b (storedAt s (c .place) ∷ fieldsFrom s (d .place))) (sym (exact-took s c f d e))
-        ∙ ap (verdict (t .right) (c .«in_record») (t .cur) h n (exactFrom s (c .place))) (sym (from-took s c f d e))
+        ap (λ (b : Bool). verdict (t .right) (c .«in_record») (t .cur) h n b (storedAt s (c .place) ∷ fieldsFrom s (d .place))) (sym (exact-took s c kind len d e))
+        ∙ ap (verdict (t .right) (c .«in_record») (t .cur) h n (exactFrom s (c .place))) (sym (from-took s c kind len d e))
         ∙ t .rest
 
     ended : isEnd (storedAt s (c .place)) ≡ true → Stands s d (emptySection (passes x (c .«in_record»))) h (n + cond (c .«in_record») 1 0)
     ended k =
-        let w = forward s c f d e in
+        let w = forward s c kind len d e in
         let r : d .«in_record» ≡ true = passed true k ∙ or-true (c .«in_record») in
         let p = sums-passes (c .«in_record») (t .cur) (t .right) x (t .sums) in
         record {
@@ -110,7 +109,7 @@ module _ (s : List ℕ) (c : Cursor) (x : Section) (h n : ℕ) (t : Stands s c x
           aligned = w .2;
           few = little (c .«in_record») (w .0);
           rest = ap₂ (λ (b r : Bool). verdict b r [] h (n + cond (c .«in_record») 1 0) (exactFrom s (d .place)) (fieldsFrom s (d .place))) p r
-              ∙ sym (verdict-end (t .right) (c .«in_record») (t .cur) h n (exactFrom s (d .place)) (storedAt s (c .place)) (fieldsFrom s (d .place)) (taken-no-data s c f d e) k)
+              ∙ sym (verdict-end (t .right) (c .«in_record») (t .cur) h n (exactFrom s (d .place)) (storedAt s (c .place)) (fieldsFrom s (d .place)) (taken-no-data s c kind len d e) k)
               ∙ next;
         }
       where
@@ -121,7 +120,7 @@ module _ (s : List ℕ) (c : Cursor) (x : Section) (h n : ℕ) (t : Stands s c x
     noting : isEnd (storedAt s (c .place)) ≡ false
         → Stands s d (noted x (c .«in_record») (storedAt s (c .place) .kind) (length (storedAt s (c .place) .content))) (h + cond (c .«in_record») 0 1) n
     noting k =
-        let w = forward s c f d e in
+        let w = forward s c kind len d e in
         let r : d .«in_record» ≡ c .«in_record» = passed false k ∙ or-false (c .«in_record») in
         let g = storedAt s (c .place) in
         record {
@@ -132,7 +131,7 @@ module _ (s : List ℕ) (c : Cursor) (x : Section) (h n : ℕ) (t : Stands s c x
           aligned = w .2;
           few = little (c .«in_record») (w .0);
           rest = ap (λ (b : Bool). verdict (t .right) b (t .cur ++ (g ∷ [])) (h + cond (c .«in_record») 0 1) n (exactFrom s (d .place)) (fieldsFrom s (d .place))) r
-              ∙ sym (verdict-field (t .right) (c .«in_record») (t .cur) h n (exactFrom s (d .place)) g (fieldsFrom s (d .place)) (taken-no-data s c f d e) k)
+              ∙ sym (verdict-field (t .right) (c .«in_record») (t .cur) h n (exactFrom s (d .place)) g (fieldsFrom s (d .place)) (taken-no-data s c kind len d e) k)
               ∙ next;
         }
       where
@@ -144,12 +143,12 @@ module _ (s : List ℕ) (c : Cursor) (x : Section) (h n : ℕ) (t : Stands s c x
     moved x′ x″ h′ h″ n′ n″ p q r y = rw (p, q, r) y
 
     -- one field more
-    pub stands-took : (x′ : Section) (i j : ℕ) → x′ ≡ stepped x (c .«in_record») (f .kind) (f .len) → i ≡ headerField (c .«in_record») (f .kind) → j ≡ recordEnd (c .«in_record») (f .kind)
+    pub stands-took : (x′ : Section) (i j : ℕ) → x′ ≡ stepped x (c .«in_record») kind len → i ≡ headerField (c .«in_record») kind → j ≡ recordEnd (c .«in_record») kind
         → Stands s d x′ (h + i) (n + j)
     stands-took x′ i j p q u =
         let g = storedAt s (c .place) in
-        let k = taken-kind s c f d e in
-        let l = taken-length s c f d e in
+        let k = taken-kind s c kind len d e in
+        let l = taken-length s c kind len d e in
         by (isEnd g) refl (p ∙ rw (k, l)) (q ∙ rw k) (u ∙ rw k)
       where
         by : (b : Bool) → isEnd (storedAt s (c .place)) ≡ b

@@ -9,7 +9,7 @@ use lib.ListN.{length, length-append}
 use borrow.Author.Tests.{eqb-true, eq-eqb}
 use Rattle.words.specs.Each.{Each}
 use Rattle.fields.specs.Stored.{Stored, roomOf, bytesOf}
-use Rattle.fields.specs.Walk.{lenAt, dataAt}
+use Rattle.fields.specs.Step.{lenAt, dataAt}
 use Rattle.uuids.specs.Uuids.{isUuidAt, uuidsFrom, Repeats}
 use Rattle.uuids.specs.declared.Repeat.{Repeat}
 use Rattle.uuids.proofs.Steps.{none-fits, fits}

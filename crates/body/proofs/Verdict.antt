@@ -8,7 +8,7 @@ use native.Mathlib.Omega.{arith}
 use lib.ListN.{length}
 use lib.Seq.{length-take-le}
 use Rattle.fields.specs.Stored.{Stored}
-use Rattle.fields.specs.Walk.{endWithData}
+use Rattle.fields.specs.Step.{endWithData}
 use Rattle.body.specs.Sections.{isEnd, push, runs}
 use Rattle.body.specs.Decision.{fieldsOf, exactFrom, endsEmpty, none, goodHeader, goodRecord, goodRuns, headerIn, recordsIn}
 use Rattle.body.specs.Tally.{sectionsOf}

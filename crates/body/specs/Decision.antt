@@ -8,7 +8,7 @@ use lib.ListN.{length, getD, take, drop}
 use Rattle.words.specs.Each.{allIn}
 use Rattle.words.specs.Slices.{same}
 use Rattle.fields.specs.Stored.{Stored, roomOf, fillOf}
-use Rattle.fields.specs.Walk.{lenAt, kindAt, dataAt, endWithData}
+use Rattle.fields.specs.Step.{lenAt, kindAt, dataAt, endWithData}
 use Rattle.body.specs.Division.{joined}
 use Rattle.body.specs.Sections.{runs, count, covered}
 use Rattle.body.specs.WellFormed.{onceInHeader, uuidOf}

@@ -6,7 +6,7 @@ use fields::Stepped;
 use fields::Value;
 ghost use mathlib.Core.Path.{_≡_};
 ghost use Prim.Native.Nat.{_+_, _^_, _<_, _≤_};
-ghost use Rattle.fields.specs.Walk.{start as startOf};
+ghost use Rattle.fields.specs.Step.{start as startOf};
 ghost use Rattle.body.specs.Find.{isUuid, isMatch};
 ghost use Rattle.body.specs.Search.{atRecord, visitOf, searchedOn};
 

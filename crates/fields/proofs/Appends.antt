@@ -8,7 +8,7 @@ use lib.ListN.{length, take, drop}
 use lib.Seq.{drop-drop}
 use Rattle.text.proofs.Tests.{tests}
 use Rattle.fields.specs.Stored.{Stored, roomOf, fillOf}
-use Rattle.fields.specs.Walk.{endWithData}
+use Rattle.fields.specs.Step.{endWithData}
 use Rattle.fields.specs.Append.{appendOf}
 use Rattle.fields.specs.declared.store.Appended.the-variants.{Next, EndWithData, BadFill, NoRoom}
 

@@ -12,14 +12,15 @@ use borrow.Author.Tests.{eqb-true, ltb-false, not-false}
 use Rattle.words.specs.Numbers.{bytesLow}
 use Rattle.words.proofs.NumberLaws.{number-bytes, bytes-sized}
 use Rattle.fields.specs.Stored.{Stored, bytesOf, roomOf, fillOf}
-use Rattle.fields.specs.Value.{valueOf}
-use Rattle.fields.specs.Walk.{lenAt, kindAt, dataAt, endWithData, misplaced, walkOf}
+use Rattle.fields.specs.Step.{lenAt, kindAt, dataAt, endWithData, misplaced}
+use Rattle.fields.specs.Walk.{Values, walkBy}
 use Rattle.fields.specs.Append.{badFill, noRoom, appendOf, bufferAfter}
 use Rattle.fields.specs.declared.Cursor.{Cursor}
 use Rattle.fields.specs.declared.Field.{Field}
 use Rattle.fields.specs.declared.Walked.the-variants.{Took}
 use Rattle.fields.specs.declared.store.Appended.the-variants.{Next, Misplaced, EndWithData, BadFill, NoRoom}
 use Rattle.fields.proofs.Outcomes.{neither, took}
+use Rattle.fields.proofs.Valued.{valued}
 
 pub bytes-long : (f : Stored) → length (bytesOf f) ≡ 5 + length (f .content) + length (f .fill)
 bytes-long f = simp (length-append, bytes-sized 4 (length (f .content)) .long) (omega arith)
@@ -57,24 +58,25 @@ module _ (a : List ℕ) (f : Stored) (z : List ℕ) where
       rw (e, ← drop-drop (length (f .content)) (length a + 5) (a ++ (bytesOf f ++ z)), from-data)
       (drop-at (f .content) (f .fill ++ z) (length (f .content)) refl)
 
--- a stored field as the walk shows it, at place p, in a record or not
-abbrev pub shown : Bool → ℕ → Stored → Field
-shown r p f = record { kind = f .kind; place = p; len = length (f .content); value = valueOf r (f .kind) (f .content) }
+-- a stored field as the walk by the values v shows it, at place p, in a record or not
+abbrev pub shown : Values → Bool → ℕ → Stored → Field
+shown v r p f = record { kind = f .kind; place = p; len = length (f .content); value = v r (f .kind) (f .content) }
 
 -- the cursor after it
 abbrev pub past : Bool → ℕ → Stored → Cursor
 past r p f = record { place = p + roomOf (length (f .content)); «in_record» = r || eqb (f .kind) 0xff }
 
-pub walk-stored : (a : List ℕ) (f : Stored) (z : List ℕ) (r : Bool) → length a % 16 ≡ 0 → length (f .content) < 2 ^ 32
+pub walk-stored : (v : Values) (a : List ℕ) (f : Stored) (z : List ℕ) (r : Bool) → length a % 16 ≡ 0 → length (f .content) < 2 ^ 32
     → length (f .fill) ≡ fillOf (length (f .content)) → endWithData (f .kind) (length (f .content)) ≡ false
-    → walkOf (a ++ (bytesOf f ++ z)) (record { place = length a; «in_record» = r }) ≡ Took (shown r (length a) f) (past r (length a) f)
-walk-stored a f z r al h g e =
+    → walkBy v (a ++ (bytesOf f ++ z)) (record { place = length a; «in_record» = r }) ≡ Took (shown v r (length a) f) (past r (length a) f)
+walk-stored v a f z r al h g e =
     let s = a ++ (bytesOf f ++ z) in
     let n : length s ≡ length a + roomOf (length (f .content)) + length z = simp (length-append, bytes-sized 4 (length (f .content)) .long) (omega arith) in
     let l = len-back a f z h in
     let k = kind-back a f z in
     let inside : roomOf (lenAt s (length a)) ≤ length s - length a = omega (arith, ap roomOf l) in
-    took s (record { place = length a; «in_record» = r }) al (omega arith) (λ x. omega arith) (omega arith) inside (rw (k, l) e)
+    valued v s (record { place = length a; «in_record» = r }) _
+    (took s (record { place = length a; «in_record» = r }) al (omega arith) (λ x. omega arith) (omega arith) inside (rw (k, l) e))
     ∙ rw (data-back a f z h, l, k)
 
 -- what an accepted append tells
@@ -113,14 +115,14 @@ accepted b p f q h =
     }
 
 -- What append wrote is what the walk hands back: type, length and value, and the next place.
-pub walks-back : (b : List ℕ) (p : ℕ) (f : Stored) (q : ℕ) (r : Bool) → appendOf b p f ≡ Next q
-    → walkOf (bufferAfter (Next q) b p f) (record { place = p; «in_record» = r })
-    ≡ Took (shown r p f) (record { place = q; «in_record» = r || eqb (f .kind) 0xff })
-walks-back b p f q r h =
+pub walks-back : (v : Values) (b : List ℕ) (p : ℕ) (f : Stored) (q : ℕ) (r : Bool) → appendOf b p f ≡ Next q
+    → walkBy v (bufferAfter (Next q) b p f) (record { place = p; «in_record» = r })
+    ≡ Took (shown v r p f) (record { place = q; «in_record» = r || eqb (f .kind) 0xff })
+walks-back v b p f q r h =
     let t = accepted b p f q h in
     let l : length (take p b) ≡ p = length-take-le p b (t .within) in
-    let w = walk-stored (take p b) f (drop q b) r (ap (λ (n : ℕ). n % 16) l ∙ t .aligned) (omega (arith, t .next, t .limit)) (t .filled) (t .no-data) in
-    ap (λ (n : ℕ). walkOf (bufferAfter (Next q) b p f) (record { place = n; «in_record» = r })) (sym l)
+    let w = walk-stored v (take p b) f (drop q b) r (ap (λ (n : ℕ). n % 16) l ∙ t .aligned) (omega (arith, t .next, t .limit)) (t .filled) (t .no-data) in
+    ap (λ (n : ℕ). walkBy v (bufferAfter (Next q) b p f) (record { place = n; «in_record» = r })) (sym l)
     ∙ w
-    ∙ ap (λ (n : ℕ). Took (shown r n f) (past r n f)) l
-    ∙ ap (λ (n : ℕ). Took (shown r p f) (record { place = n; «in_record» = r || eqb (f .kind) 0xff })) (sym (t .next))
+    ∙ ap (λ (n : ℕ). Took (shown v r n f) (past r n f)) l
+    ∙ ap (λ (n : ℕ). Took (shown v r p f) (record { place = n; «in_record» = r || eqb (f .kind) 0xff })) (sym (t .next))

@@ -6,10 +6,11 @@ use mathlib.Core.List.{List, [], _∷_, _++_, map}
 use lib.ListN.{length, replicate}
 use Rattle.words.specs.Members.{to}
 use Rattle.words.specs.Numbers.{numberLow, bytesLow}
-use Rattle.text.specs.Decision.{endsWhole}
+use Rattle.text.specs.Decision.{endsWhole, greatest, goesWrongOf}
 use Rattle.fields.specs.Stored.{stored}
 use Rattle.fields.specs.Value.{headerShape, recordShape, valueOf}
-use Rattle.fields.specs.Walk.{walkOf}
+use Rattle.fields.specs.Step.{stepOf}
+use Rattle.fields.specs.Walk.{walkBy, walkOf}
 use Rattle.fields.specs.Append.{appendOf, bufferAfter}
 use Rattle.fields.specs.declared.Cursor.{Cursor}
 use Rattle.fields.specs.declared.Walked.{Walked}
@@ -117,7 +118,9 @@ values =
     ∷ (valueOf false 0x00 (0x0e ∷ 0x03 ∷ []) ∷ valueOf true 0x13 (0x01 ∷ 0x02 ∷ []) ∷ valueOf true 0x17 (0x01 ∷ 0x02 ∷ []) ∷ [], Value.Number 0x030e ∷ Value.Number 0x0201 ∷ Value.Number 0x0201 ∷ [])
     ∷ (valueOf true 0x15 (0x00 ∷ []) ∷ valueOf true 0x15 (0x01 ∷ []) ∷ valueOf true 0x15 (0x80 ∷ []) ∷ [], Value.Flag false ∷ Value.Flag true ∷ Value.Flag true ∷ [])
     ∷ (map (λ k. valueOf true k (0x01 ∷ 0x02 ∷ 0x03 ∷ [])) (0x07 ∷ 0x11 ∷ 0x13 ∷ 0x15 ∷ []), replicate 4 Value.Misshapen)
-    ∷ (valueOf true 0x03 (0x80 ∷ []) ∷ valueOf true 0x03 (0x41 ∷ 0x00 ∷ []) ∷ valueOf false 0x02 (0xef ∷ 0xbb ∷ 0xbf ∷ []) ∷ [], replicate 3 Value.BadText)
+    -- BadText with its number, and the same bytes under a type that is none of a text
+    ∷ (valueOf true 0x03 (0x41 ∷ 0x80 ∷ []) ∷ valueOf true 0x03 (0x41 ∷ 0x42 ∷ 0x00 ∷ []) ∷ valueOf false 0x02 (0xef ∷ 0xbb ∷ 0xbf ∷ []) ∷ [], Value.BadText 1 ∷ Value.BadText 2 ∷ Value.BadText 0 ∷ [])
+    ∷ (valueOf true 0x1b (0x41 ∷ 0x80 ∷ []) ∷ valueOf true 0x0a (0x41 ∷ 0x80 ∷ []) ∷ [], Value.Opaque ∷ Value.Misshapen ∷ [])
     -- Empty before all but END
     ∷ (map (λ k. valueOf false k []) (0x00 ∷ 0x01 ∷ 0x02 ∷ 0x04 ∷ 0x12 ∷ 0xfe ∷ 0xff ∷ []), replicate 6 Value.Empty ++ (Value.End ∷ []))
     ∷ (map (λ k. valueOf true k []) (0x00 ∷ 0x01 ∷ 0x02 ∷ 0x15 ∷ 0x1b ∷ 0xfe ∷ 0xff ∷ []), replicate 6 Value.Empty ++ (Value.End ∷ []))
@@ -126,7 +129,7 @@ values =
 pub cases : (map (λ c. c .0) walks ≡ map (λ c. c .1) walks)
     × (map (λ c. c .0) appends ≡ map (λ c. c .1) appends)
     × (map (λ c. c .0) values ≡ map (λ c. c .1) values)
-unfolding numberLow bytesLow endsWhole headerShape recordShape valueOf walkOf appendOf
+unfolding numberLow bytesLow endsWhole greatest goesWrongOf headerShape recordShape valueOf stepOf walkBy appendOf
 cases = (refl, refl, refl)
 
 -- 3 past 4,194,096 also where the buffer goes on: no field ends there

@@ -1,5 +1,6 @@
 mod Shapes
 pub mod Outcomes
+pub mod Valued
 mod Parts
 mod Appends
 pub mod Back

@@ -7,10 +7,11 @@ use lib.Dec.{eqb}
 use lib.ListN.{length, getD}
 use Rattle.fields.specs.Stored.{Stored, roomOf}
 use Rattle.fields.specs.Value.{valueNumbers}
-use Rattle.fields.specs.Walk.{walkOf, walkNumber, walkValues, misplaced, broken, endWithData, fieldAt, after}
+use Rattle.fields.specs.Step.{lenAt, kindAt, after, misplaced, broken, endWithData, stepOf}
+use Rattle.fields.specs.Walk.{Values, withValue, walkBy, walkOf, walkNumber, walkValues}
 use Rattle.fields.specs.Append.{appendOf, appendNumber, appendValues, badFill, noRoom, bufferAfter}
 use Rattle.fields.specs.declared.Cursor.{Cursor}
-use Rattle.fields.specs.declared.Field.{Field}
+use Rattle.fields.specs.declared.Stepped.the-variants as stepped
 use Rattle.fields.specs.declared.Walked.{Walked}
 use Rattle.fields.specs.declared.Walked.the-variants as walked
 use Rattle.fields.specs.declared.value.Value.{Value}
@@ -18,18 +19,19 @@ use Rattle.fields.specs.declared.value.Value.the-variants as value
 use Rattle.fields.specs.declared.store.Appended.{Appended}
 use Rattle.fields.specs.declared.store.Appended.the-variants as appended
 
--- walk: 11, then 14
-pub walk-numbers : (s : List ℕ) (c : Cursor)
-    → walkNumber (walkOf s c) ≡ cond (misplaced s (c .place)) 11 (cond (eqb (c .place) (length s)) 0 (cond (broken s (c .place)) 14 0))
-unfolding walkOf
-walk-numbers s c = by (misplaced s (c .place)) (eqb (c .place) (length s)) (broken s (c .place)) (fieldAt s c) (after s c)
+-- walk: 11, then 14, whatever the values
+pub walk-numbers : (v : Values) (s : List ℕ) (c : Cursor)
+    → walkNumber (walkBy v s c) ≡ cond (misplaced s (c .place)) 11 (cond (eqb (c .place) (length s)) 0 (cond (broken s (c .place)) 14 0))
+unfolding walkBy stepOf
+walk-numbers v s c = by (misplaced s (c .place)) (eqb (c .place) (length s)) (broken s (c .place))
   where
-    by : (m e b : Bool) (f : Field) (d : Cursor)
-        → walkNumber (cond m walked.Misplaced (cond e walked.Finished (cond b walked.Broken (walked.Took f d)))) ≡ cond m 11 (cond e 0 (cond b 14 0))
-    by true e b f d = refl
-    by false true b f d = refl
-    by false false true f d = refl
-    by false false false f d = refl
+    by : (m e b : Bool)
+        → walkNumber (withValue v s c (cond m stepped.Misplaced (cond e stepped.Finished (cond b stepped.Broken (stepped.Took (kindAt s (c .place)) (lenAt s (c .place)) (after s c))))))
+        ≡ cond m 11 (cond e 0 (cond b 14 0))
+    by true e b = refl
+    by false true b = refl
+    by false false true = refl
+    by false false false = refl
 
 -- append: 11, 13, 12, 3
 pub append-numbers : (b : List ℕ) (p : ℕ) (f : Stored)
@@ -48,7 +50,7 @@ append-numbers b p f = by (misplaced b p) (endWithData (f .kind) (length (f .con
     by false false false false q = refl
 
 -- the value of such numbers, and the answer of a walk with a number and values
-abbrev valueBy : ℕ → ℕ → ℕ → Value
+abbrev pub valueBy : ℕ → ℕ → ℕ → Value
 valueBy k a b =
     cond (eqb k 0) value.Empty
     (cond (eqb k 1) value.End
@@ -57,10 +59,10 @@ valueBy k a b =
     (cond (eqb k 4) (value.Number a)
     (cond (eqb k 5) (value.Flag (eqb a 1))
     (cond (eqb k 6) value.Text
-    (cond (eqb k 7) value.BadText
+    (cond (eqb k 7) (value.BadText a)
     (cond (eqb k 8) value.Misshapen value.Opaque))))))))
 
-value-said : (v : Value) → valueBy (getD (valueNumbers v) 0 0) (getD (valueNumbers v) 1 0) (getD (valueNumbers v) 2 0) ≡ v
+pub value-said : (v : Value) → valueBy (getD (valueNumbers v) 0 0) (getD (valueNumbers v) 1 0) (getD (valueNumbers v) 2 0) ≡ v
 value-said value.Empty = refl
 value-said value.End = refl
 value-said (value.Uuid a b) = refl
@@ -69,9 +71,22 @@ value-said (value.Number n) = refl
 value-said (value.Flag true) = refl
 value-said (value.Flag false) = refl
 value-said value.Text = refl
-value-said value.BadText = refl
+value-said (value.BadText n) = refl
 value-said value.Misshapen = refl
 value-said value.Opaque = refl
+
+-- a value has three numbers
+pub three-numbers : (v : Value) → getD (valueNumbers v) 0 0 ∷ getD (valueNumbers v) 1 0 ∷ getD (valueNumbers v) 2 0 ∷ [] ≡ valueNumbers v
+three-numbers value.Empty = refl
+three-numbers value.End = refl
+three-numbers (value.Uuid a b) = refl
+three-numbers (value.Time t) = refl
+three-numbers (value.Number n) = refl
+three-numbers (value.Flag t) = refl
+three-numbers value.Text = refl
+three-numbers (value.BadText n) = refl
+three-numbers value.Misshapen = refl
+three-numbers value.Opaque = refl
 
 abbrev tookBy : List ℕ → Walked
 tookBy [] = walked.Finished

@@ -5,7 +5,7 @@ use mathlib.Core.List.{List, [], _∷_, _++_}
 use lib.Dec.{ltb, eqb}
 use lib.ListN.{length, take, drop}
 use Rattle.fields.specs.Stored.{Stored, bytesOf, roomOf, fillOf}
-use Rattle.fields.specs.Walk.{misplaced, endWithData}
+use Rattle.fields.specs.Step.{misplaced, endWithData}
 use Rattle.fields.specs.declared.store.Appended.{Appended}
 use Rattle.fields.specs.declared.store.Appended.the-variants.{Next, Misplaced, EndWithData, BadFill, NoRoom}
 

@@ -1,5 +1,5 @@
 pub mod Stored
 pub mod Value
-pub mod Walk
 pub mod Step
+pub mod Walk
 pub mod Append

@@ -1,4 +1,4 @@
--- What the data of a field stands for (document 01, the list of values).
+-- What the data of a field stands for (document 01, the list of values; document 02, Q-5).
 use Prim.Native.Nat.{ℕ}
 use mathlib.Core.Bool.{Bool, cond, not}
 use mathlib.Core.List.{List, [], _∷_, _++_}
@@ -6,7 +6,9 @@ use lib.Dec.{eqb}
 use lib.ListN.{length, getD, take, drop}
 use Rattle.words.specs.Members.{among, to}
 use Rattle.words.specs.Numbers.{numberLow}
-use Rattle.text.specs.Decision.{textOf}
+use Rattle.text.specs.Decision.{goesWrongOf}
+use Rattle.text.specs.declared.Wrong.{Wrong}
+use Rattle.text.specs.declared.Wrong.the-variants.{Nowhere, At}
 use Rattle.fields.specs.declared.value.Shape.{Shape}
 use Rattle.fields.specs.declared.value.Shape.the-variants as Shape
 use Rattle.fields.specs.declared.value.Value.{Value}
@@ -51,6 +53,11 @@ recordShape k = shapeBy recordTypes k
 abbrev pub sized : ℕ → List ℕ → Value → Value
 sized n d v = cond (eqb (length d) n) v Value.Misshapen
 
+-- Text, or BadText with the number where it goes wrong
+abbrev pub textual : Wrong → Value
+textual Nowhere = Value.Text
+textual (At n) = Value.BadText n
+
 -- Uuid: bytes 0 to 7 and bytes 8 to 15, each little-endian, as every stored number
 abbrev pub shapedOf : Shape → List ℕ → Value
 shapedOf Shape.Uuid d = sized 16 d (Value.Uuid (numberLow (take 8 d)) (numberLow (take 8 (drop 8 d))))
@@ -58,7 +65,7 @@ shapedOf Shape.Time d = sized 4 d (Value.Time (numberLow d))
 shapedOf Shape.Word d = sized 4 d (Value.Number (numberLow d))
 shapedOf Shape.Half d = sized 2 d (Value.Number (numberLow d))
 shapedOf Shape.Flag d = sized 1 d (Value.Flag (not (eqb (getD d 0 0) 0)))
-shapedOf Shape.Text d = cond (textOf d) Value.Text Value.BadText
+shapedOf Shape.Text d = textual (goesWrongOf d)
 shapedOf Shape.Opaque d = Value.Opaque
 
 -- r: in a record, not in the header; k: the type; d: the data
@@ -77,6 +84,6 @@ valueNumbers (Value.Time t) = 3 ∷ t ∷ 0 ∷ []
 valueNumbers (Value.Number n) = 4 ∷ n ∷ 0 ∷ []
 valueNumbers (Value.Flag t) = 5 ∷ cond t 1 0 ∷ 0 ∷ []
 valueNumbers Value.Text = 6 ∷ 0 ∷ 0 ∷ []
-valueNumbers Value.BadText = 7 ∷ 0 ∷ 0 ∷ []
+valueNumbers (Value.BadText n) = 7 ∷ n ∷ 0 ∷ []
 valueNumbers Value.Misshapen = 8 ∷ 0 ∷ 0 ∷ []
 valueNumbers Value.Opaque = 9 ∷ 0 ∷ 0 ∷ []

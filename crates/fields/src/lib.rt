@@ -1,4 +1,5 @@
 // The fields of a V3 body: the walk from field to field, and append.
+pub mod answers;
 pub mod store;
 pub mod value;
 
@@ -7,8 +8,8 @@ pub use store::append;
 pub use value::Value;
 ghost use mathlib.Core.Path.{_≡_};
 ghost use Rattle.fields.specs.Stored.{roomOf, fillOf};
-ghost use Rattle.fields.specs.Step.{stepOf};
-ghost use Rattle.fields.specs.Walk.{start as startOf, endWithData, passed as passedOf, walkOf};
+ghost use Rattle.fields.specs.Step.{stepOf, start as startOf, endWithData, passed as passedOf};
+ghost use Rattle.fields.specs.Walk.{walkOf};
 
 // Where the walk stands, and whether it is in a record or still in the header.
 pub struct Cursor {

@@ -14,6 +14,7 @@ pub enum Shape {
     Opaque,
 }
 
+// BadText has the number of bytes that are right.
 pub enum Value {
     Empty,
     End,
@@ -22,7 +23,7 @@ pub enum Value {
     Number(u32),
     Flag(bool),
     Text,
-    BadText,
+    BadText(usize),
     Misshapen,
     Opaque,
 }
@@ -159,10 +160,10 @@ fn flag(d: &[u8]) -> Value
 fn plain(d: &[u8]) -> Value
     ensures { λ r. ⌜ r ≡ shapedOf Shape.Text (now (d .entry)) ⌝ }
 {
-    if text::is_text(d) {
-        return Value::Text;
+    match text::goes_wrong(d) {
+        text::Wrong::Nowhere => Value::Text,
+        text::Wrong::At(n) => Value::BadText(n),
     }
-    Value::BadText
 }
 
 // The value of data that is neither empty nor an END's.

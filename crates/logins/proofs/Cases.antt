@@ -4,7 +4,7 @@ use mathlib.Core.Path.{_≡_, refl}
 use mathlib.Core.List.{List, [], _∷_, _++_, map}
 use lib.ListN.{replicate}
 use Rattle.words.specs.Members.{to}
-use Rattle.text.specs.Decision.{endsWhole}
+use Rattle.text.specs.Decision.{endsWhole, greatest, goesWrongOf}
 use Rattle.fields.specs.Stored.{Stored}
 use Rattle.fields.specs.Value.{recordShape, valueOf}
 use Rattle.words.specs.Numbers.{numberLow}
@@ -42,7 +42,7 @@ sizes : map faultWith
     ∷ (field 0x0a (0 ∷ 0 ∷ 0 ∷ 0 ∷ 0 ∷ []) ∷ [])
     ∷ [])
     ≡ 0 ∷ 0x03 ∷ 0 ∷ 0x04 ∷ 0 ∷ 0x02 ∷ 0x04 ∷ 0x04 ∷ 0 ∷ 0x0a ∷ 0 ∷ 0x0a ∷ []
-unfolding faultOf unfit valueOf recordShape firstData endsWhole
+unfolding faultOf unfit valueOf recordShape firstData endsWhole greatest goesWrongOf
 sizes = refl
 
 -- a later field does not count, good or bad; of several faults the first in the table's order is told, whatever their order in the record
@@ -54,7 +54,7 @@ firsts : map faultWith
     ∷ (field 0x0a (0 ∷ []) ∷ field 0x02 (0xff ∷ []) ∷ field 0x04 (0xff ∷ []) ∷ field 0x03 (0xff ∷ []) ∷ [])
     ∷ [])
     ≡ 0 ∷ 0x04 ∷ 0x02 ∷ 0x04 ∷ 0x03 ∷ []
-unfolding faultOf unfit valueOf recordShape firstData endsWhole
+unfolding faultOf unfit valueOf recordShape firstData endsWhole greatest goesWrongOf
 firsts = refl
 
 -- the first record at fault is told, by its number from 0
@@ -64,7 +64,7 @@ records : map (checkedFrom 0)
     ∷ (plain ∷ (field 0x04 (0xff ∷ []) ∷ plain) ∷ (field 0x03 [] ∷ field 0x02 (0xff ∷ []) ∷ plain) ∷ [])
     ∷ [])
     ≡ Fine 0 ∷ Fine 2 ∷ Fault 1 0x04 ∷ []
-unfolding checkedFrom faultOf unfit valueOf recordShape firstData endsWhole
+unfolding checkedFrom faultOf unfit valueOf recordShape firstData endsWhole greatest goesWrongOf
 records = refl
 
 -- no row needs no room; two rows need 512 bytes; a fault is told before a short output

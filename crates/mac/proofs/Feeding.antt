@@ -13,25 +13,31 @@ use Rattle.words.proofs.Places.{fourAt, four-at}
 use Rattle.sha256.specs.Running.{macOf, MacTakes}
 use Rattle.sha256.specs.declared.Mac.{Mac}
 use Rattle.fields.specs.Stored.{Stored}
-use Rattle.fields.specs.Walk.{walkOf, lenAt, dataAt}
+use Rattle.fields.specs.Step.{lenAt, dataAt, stepOf}
 use Rattle.fields.specs.declared.Cursor.{Cursor}
-use Rattle.fields.specs.declared.Field.{Field}
-use Rattle.fields.specs.declared.Walked.{Walked}
-use Rattle.fields.specs.declared.Walked.the-variants.{Took, Finished, Misplaced, Broken}
-use Rattle.fields.proofs.Walked as walked
-use Rattle.fields.proofs.Outcomes.{forward}
+use Rattle.fields.specs.declared.Stepped.{Stepped}
+use Rattle.fields.specs.declared.Stepped.the-variants.{Took, Finished, Misplaced, Broken}
+use Rattle.fields.proofs.Stepped as a-step
+use Rattle.fields.proofs.Outcomes.{forward, next-place}
 use Rattle.body.specs.Sections.{covered}
 use Rattle.body.specs.Decision.{takenFrom, coveredOf}
-use Rattle.body.proofs.Along.{next-place, fold-took, fold-else}
+use Rattle.body.proofs.Along.{fold-took, fold-else}
 use Rattle.mac.specs.Next.{placeAfter, cursorAt, nextOf, Steps}
 
 -- the walk takes a field exactly where it goes on
-pub took : (s : List ℕ) (i j : ℕ) → Steps s i j → (f : Field) × (d : Cursor) × (walkOf s (cursorAt i) ≡ Took f d) × (d .place ≡ j)
+pub record Goes (s : List ℕ) (i j : ℕ) : Type 0 where
+  kind : ℕ
+  len : ℕ
+  next : Cursor
+  took : stepOf s (cursorAt i) ≡ Took kind len next
+  there : next .place ≡ j
+
+goes : (s : List ℕ) (i j : ℕ) → Steps s i j → Goes s i j
 unfolding nextOf
-took s i j h = by (walkOf s (cursorAt i)) refl
+goes s i j h = by (stepOf s (cursorAt i)) refl
   where
-    by : (w : Walked) → walkOf s (cursorAt i) ≡ w → (f : Field) × (d : Cursor) × (walkOf s (cursorAt i) ≡ Took f d) × (d .place ≡ j)
-    by (Took f d) e = let n : j ≡ d .place = rw e at (h .0) in (f, d, e, sym n)
+    by : (w : Stepped) → stepOf s (cursorAt i) ≡ w → Goes s i j
+    by (Took kind len d) e = let n : j ≡ d .place = rw e at (h .0) in record { kind = kind; len = len; next = d; took = e; there = sym n }
     by Finished e = let n : j ≡ i = rw e at (h .0) in absurd (omega (arith, h .1))
     by Misplaced e = let n : j ≡ i = rw e at (h .0) in absurd (omega (arith, h .1))
     by Broken e = let n : j ≡ i = rw e at (h .0) in absurd (omega (arith, h .1))
@@ -39,18 +45,18 @@ took s i j h = by (walkOf s (cursorAt i)) refl
 -- the field lies within the body
 pub room : (s : List ℕ) (i j : ℕ) → Steps s i j → (i + (5 + lenAt s i) ≤ j) × (i + 16 ≤ j) × (j ≤ length s)
 room s i j h =
-    let t = took s i j h in
-    let w = forward s (cursorAt i) (t .0) (t .1) (t .2) in
-    (omega (arith, next-place s (cursorAt i) (t .0) (t .1) (t .2), t .3), omega (arith, w .0, t .3), omega (arith, w .1, t .3))
+    let t = goes s i j h in
+    let w = forward s (cursorAt i) (t .kind) (t .len) (t .next) (t .took) in
+    (omega (arith, next-place s (cursorAt i) (t .kind) (t .len) (t .next) (t .took), t .there), omega (arith, w .0, t .there), omega (arith, w .1, t .there))
 
 -- ---- the functions
-pub next-took : (s : List ℕ) (i : ℕ) (f : Field) (d : Cursor) → walkOf s (cursorAt i) ≡ Took f d → d .place ≡ nextOf s i
+pub next-took : (s : List ℕ) (i kind len : ℕ) (d : Cursor) → stepOf s (cursorAt i) ≡ Took kind len d → d .place ≡ nextOf s i
 unfolding nextOf
-next-took s i f d e = ap (placeAfter i) (sym e)
+next-took s i kind len d e = ap (placeAfter i) (sym e)
 
-pub next-else : (s : List ℕ) (i : ℕ) (w : Walked) → w ≡ walkOf s (cursorAt i) → OneOf (1 ∷ 2 ∷ 3 ∷ []) (tagOf walked.the-type w) → i ≡ nextOf s i
+pub next-else : (s : List ℕ) (i : ℕ) (w : Stepped) → w ≡ stepOf s (cursorAt i) → OneOf (1 ∷ 2 ∷ 3 ∷ []) (tagOf a-step.the-type w) → i ≡ nextOf s i
 unfolding nextOf
-next-else s i (Took f d) q o = absurd (⊎-elim (λ z. omega arith) (⊎-elim (λ z. omega arith) (λ z. omega arith)) o)
+next-else s i (Took kind len d) q o = absurd (⊎-elim (λ z. omega arith) (⊎-elim (λ z. omega arith) (λ z. omega arith)) o)
 next-else s i Finished q o = ap (placeAfter i) q
 next-else s i Misplaced q o = ap (placeAfter i) q
 next-else s i Broken q o = ap (placeAfter i) q
@@ -100,14 +106,14 @@ fed-start s h j e = record { gone = []; takes = λ k m e. e ∙ ap (macOf k) (sy
 module _ (s : List ℕ) (h : Mac) (i j : ℕ) (z : Mac) (x : Fed s h i j z) where
   pub fed-next : i < j → (p : List ℕ) → p ≡ dataAt s i → (r : Mac) → MacTakes z p r → (k : ℕ) → k ≡ nextOf s j → Fed s h j k r
   fed-next l p is r t k e =
-      let y = took s i j (x .next, l) in
-      let f = fold-took (λ (fs : List Stored). x .gone ++ covered fs) (coveredOf s) s (cursorAt i) (x .rest) (y .0) (y .1) (y .2) in
+      let y = goes s i j (x .next, l) in
+      let f = fold-took (λ (fs : List Stored). x .gone ++ covered fs) (coveredOf s) s (cursorAt i) (x .rest) (y .kind) (y .len) (y .next) (y .took) in
       record {
         gone = x .gone ++ p;
         takes = λ k m e. t k (m ++ x .gone) (x .takes k m e) ∙ ap (macOf k) (append-assoc m (x .gone) p);
         rest = ap (λ (a : List ℕ). (x .gone ++ a) ++ covered (takenFrom s j)) is
             ∙ append-assoc (x .gone) (dataAt s i) (covered (takenFrom s j))
-            ∙ ap (λ (n : ℕ). x .gone ++ (dataAt s i ++ covered (takenFrom s n))) (sym (y .3)) ∙ f;
+            ∙ ap (λ (n : ℕ). x .gone ++ (dataAt s i ++ covered (takenFrom s n))) (sym (y .there)) ∙ f;
         next = e;
         within = room s i j (x .next, l) .2;
       }
@@ -116,11 +122,11 @@ module _ (s : List ℕ) (h : Mac) (i j : ℕ) (z : Mac) (x : Fed s h i j z) wher
   pub fed-end : j ≤ i → MacTakes h (coveredOf s) z
   unfolding nextOf
   fed-end l k m e =
-      let a : x .gone ≡ coveredOf s = sym (append-nil (x .gone)) ∙ by (walkOf s (cursorAt i)) refl in
+      let a : x .gone ≡ coveredOf s = sym (append-nil (x .gone)) ∙ by (stepOf s (cursorAt i)) refl in
       x .takes k m e ∙ ap (λ (y : List ℕ). macOf k (m ++ y)) a
     where
-      by : (w : Walked) → walkOf s (cursorAt i) ≡ w → x .gone ++ [] ≡ coveredOf s
-      by (Took f d) q = let n : j ≡ d .place = rw q at (x .next) in absurd (omega (arith, forward s (cursorAt i) f d q .0))
+      by : (w : Stepped) → stepOf s (cursorAt i) ≡ w → x .gone ++ [] ≡ coveredOf s
+      by (Took kind len d) q = let n : j ≡ d .place = rw q at (x .next) in absurd (omega (arith, forward s (cursorAt i) kind len d q .0))
       by Finished q = fold-else (λ (fs : List Stored). x .gone ++ covered fs) (coveredOf s) s (cursorAt i) (x .rest) Finished (sym q) (inl refl)
       by Misplaced q = fold-else (λ (fs : List Stored). x .gone ++ covered fs) (coveredOf s) s (cursorAt i) (x .rest) Misplaced (sym q) (inr (inl refl))
       by Broken q = fold-else (λ (fs : List Stored). x .gone ++ covered fs) (coveredOf s) s (cursorAt i) (x .rest) Broken (sym q) (inr (inr refl))

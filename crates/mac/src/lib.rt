@@ -6,7 +6,7 @@ use sha256::hmac;
 ghost use mathlib.Core.Path.{_≡_};
 ghost use Rattle.sha256.specs.Hmac.{hmacOf};
 ghost use Rattle.sha256.specs.Running.{MacTakes};
-ghost use Rattle.fields.specs.Walk.{dataAt};
+ghost use Rattle.fields.specs.Step.{dataAt};
 ghost use Rattle.body.specs.Decision.{coveredOf};
 ghost use Rattle.mac.specs.Next.{nextOf, Steps};
 

@@ -2,8 +2,8 @@
 use crate::Latest;
 use crate::Replayed;
 use crate::Stood;
+use words::numbers::flag;
 ghost use mathlib.Core.Path.{_≡_};
-ghost use mathlib.Core.Bool.{cond};
 ghost use Rattle.replay.specs.Answers.{replayNumber, replayNumbers, standingNumber, standingNumbers, latestNumbers};
 
 pub fn replay_number(r: Replayed) -> u32
@@ -33,12 +33,6 @@ pub fn standing_number(s: Stood) -> u32
         Stood::Of(_) => 0,
         Stood::NotAState => 19,
     }
-}
-
-fn flag(b: bool) -> u64
-    ensures { λ r. ⌜ r ≡ cond b 1 0 ⌝ }
-{
-    if b { 1 } else { 0 }
 }
 
 // 1 and the time, or zeros.

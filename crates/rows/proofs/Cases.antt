@@ -7,7 +7,7 @@ use lib.ListN.{take, set, replicate}
 use Rattle.words.specs.Members.{to}
 use Rattle.words.specs.Numbers.{numberLow, bytesLow}
 use Rattle.words.specs.Slices.{zeros, same}
-use Rattle.text.specs.Decision.{endsWhole}
+use Rattle.text.specs.Decision.{endsWhole, greatest, goesWrongOf}
 use Rattle.fields.specs.Value.{recordShape, valueOf}
 use Rattle.rows.specs.Login.{Login, padded, rowOf}
 use Rattle.rows.specs.Days.{daysBetween, daysOf}
@@ -35,11 +35,11 @@ unfolding daysOf daysBetween valueOf recordShape numberLow
 never = refl
 
 title-lengths : map (λ (n : ℕ). unfit 0x03 80 (replicate n 0x41)) (79 ∷ 80 ∷ 81 ∷ []) ≡ false ∷ false ∷ true ∷ []
-unfolding unfit valueOf recordShape endsWhole
+unfolding unfit valueOf recordShape endsWhole greatest goesWrongOf
 title-lengths = refl
 
 group-lengths : map (λ (n : ℕ). unfit 0x02 72 (replicate n 0x41)) (71 ∷ 72 ∷ 73 ∷ []) ≡ false ∷ false ∷ true ∷ []
-unfolding unfit valueOf recordShape endsWhole
+unfolding unfit valueOf recordShape endsWhole greatest goesWrongOf
 group-lengths = refl
 
 -- nothing, a character of two bytes, a zero byte, ff, the byte order mark, and a final 00
@@ -52,7 +52,7 @@ texts : map (unfit 0x04 80)
     ∷ (0x41 ∷ 0x00 ∷ [])
     ∷ [])
     ≡ false ∷ false ∷ true ∷ true ∷ true ∷ true ∷ []
-unfolding unfit valueOf recordShape endsWhole
+unfolding unfit valueOf recordShape endsWhole greatest goesWrongOf
 texts = refl
 
 -- ==== A row: two days gone; and one whose texts leave no zero byte
@@ -72,7 +72,7 @@ unfolding rowOf padded bytesLow
 row-is = refl
 
 row-fine : fineRow row ≡ true
-unfolding fineRow fineColumn unfit beforeZero valueOf recordShape endsWhole same
+unfolding fineRow fineColumn unfit beforeZero valueOf recordShape endsWhole greatest goesWrongOf same
 row-fine = refl
 
 -- cut, too long; a byte after each text, and the last of its column; each byte of the pad; a text that is none, in each column
@@ -94,7 +94,7 @@ damaged : map fineRow
     ∷ set row 176 0xff
     ∷ [])
     ≡ replicate 15 false
-unfolding fineRow fineColumn unfit beforeZero valueOf recordShape endsWhole same
+unfolding fineRow fineColumn unfit beforeZero valueOf recordShape endsWhole greatest goesWrongOf same
 damaged = refl
 
 row-back : loginIn row ≡ login
@@ -105,7 +105,7 @@ abbrev full : Login
 full = record { uuid = to 1 16; title = replicate 80 0x41; user = replicate 80 0x42; group = replicate 72 0x43; days = 0 }
 
 full-fine : fineRow (rowOf full) ≡ true
-unfolding rowOf padded bytesLow fineRow fineColumn unfit beforeZero valueOf recordShape endsWhole same
+unfolding rowOf padded bytesLow fineRow fineColumn unfit beforeZero valueOf recordShape endsWhole greatest goesWrongOf same
 full-fine = refl
 
 full-back : loginIn (rowOf full) ≡ full
@@ -115,18 +115,18 @@ full-back = refl
 -- ==== Tables of no row, of two, and with a fault at the second: a damaged row, one byte too much
 tables : map importOf ([] ∷ (row ++ row) ∷ (row ++ set row 255 1) ∷ (row ++ (0 ∷ [])) ∷ [])
     ≡ imported.Rows 0 ∷ imported.Rows 2 ∷ imported.Refused 1 ∷ imported.Refused 1 ∷ []
-unfolding importOf importFrom fineRow fineColumn unfit beforeZero valueOf recordShape endsWhole same
+unfolding importOf importFrom fineRow fineColumn unfit beforeZero valueOf recordShape endsWhole greatest goesWrongOf same
 tables = refl
 
 -- a row is shown whatever the others are
 shows : map (showOf (set row 255 1 ++ (row ++ (0 ∷ [])))) (0 ∷ 1 ∷ 2 ∷ 3 ∷ [])
     ≡ shown.Refused ∷ shown.Of (valuesOf login) ∷ shown.Refused ∷ shown.Nowhere ∷ []
-unfolding showOf loginIn numberLow fineRow fineColumn unfit beforeZero valueOf recordShape endsWhole same
+unfolding showOf loginIn numberLow fineRow fineColumn unfit beforeZero valueOf recordShape endsWhole greatest goesWrongOf same
 shows = refl
 
 -- any UUID and any days are fine
 still-fine : map fineRow (set row 0 0xff ∷ set row 15 0 ∷ set row 248 0 ∷ set row 251 0x80 ∷ []) ≡ replicate 4 true
-unfolding fineRow fineColumn unfit beforeZero valueOf recordShape endsWhole same
+unfolding fineRow fineColumn unfit beforeZero valueOf recordShape endsWhole greatest goesWrongOf same
 still-fine = refl
 
 -- the largest number of days, the smallest, and -1, in 64 bits

@@ -1,18 +1,20 @@
 -- Bytes 01 to 7f alone are a text, and hold no zero byte: by recursion on the bytes. And whether all are such, as far as a loop has come.
-use Prim.Native.Nat.{ℕ, zero, suc, _+_, _-_, _<_, _≤_}
+use Prim.Native.Nat.{ℕ, zero, suc, _+_, _<_, _≤_}
 use mathlib.Core.Path.{_≡_, refl, sym, ap, _∙_}
 use mathlib.Core.Bool.{Bool, true, false, cond, _&&_}
-use mathlib.Core.List.{List, [], _∷_}
+use mathlib.Core.List.{List, [], _∷_, _++_}
 use native.Mathlib.Numerals.{add-one}
 use native.Mathlib.Omega.{arith}
 use lib.Dec.{eqb, ltb}
-use lib.ListN.{length, getD, drop, drop-of-length-le}
-use lib.Seq.{drop-cons}
-use borrow.Author.Tests.{ne-eqb, eqb-false, ltb-true, ltb-false, lt-ltb}
+use lib.ListN.{length, getD, drop, length-append, drop-of-length-le}
+use lib.Seq.{drop-cons, getD-at}
+use borrow.Author.Tests.{ne-eqb, ltb-true}
 use Rattle.words.specs.Members.{among}
 use Rattle.words.proofs.EachLaws.{both}
-use Rattle.text.specs.Decision.{endsWhole, markedOf, endsInZero, textOf}
-use Rattle.text.specs.declared.Utf8.the-variants.{Start}
+use Rattle.text.specs.Grammar.{one, WellFormedUtf8, end, char, IsText}
+use Rattle.text.specs.Decision.{goesWrongOf}
+use Rattle.text.specs.declared.Wrong.the-variants.{Nowhere}
+use Rattle.text.proofs.GoesWrong.{nowhere-exactly}
 use Rattle.fields.specs.Value.{recordShape, shapedOf, valueOf}
 use Rattle.fields.specs.declared.value.Shape.{Shape}
 use Rattle.fields.specs.declared.value.Shape.the-variants as Shape
@@ -51,12 +53,12 @@ between b h =
     let x = both (ltb 0 b) (ltb b 0x80) h in
     record { above = ltb-true 0 b (x .0); below = ltb-true b 0x80 (x .1) }
 
-plain-utf8 : (d : List ℕ) → isPlain d ≡ true → endsWhole Start d ≡ true
-unfolding endsWhole
-plain-utf8 [] h = refl
+plain-utf8 : (d : List ℕ) → isPlain d ≡ true → WellFormedUtf8 d
+plain-utf8 [] h = end
 plain-utf8 (b ∷ d) h =
     let x = both (plainByte b) (isPlain d) h in
-    rw (lt-ltb b 0x80 (between b (x .0) .below)) (plain-utf8 d (x .1))
+    let y = between b (x .0) in
+    char (one {b = b} (omega (arith, y .below))) (plain-utf8 d (x .1))
 
 plain-at : (d : List ℕ) → isPlain d ≡ true → (i : ℕ) → i < length d → Between (getD d i 0)
 plain-at [] h i l = absurd (omega arith)
@@ -70,30 +72,24 @@ plain-zero (b ∷ d) h =
     let y = between b (x .0) in
     rw (ne-eqb 0 b (λ e. omega (arith, y .above))) (plain-zero d (x .1))
 
-plain-text : (d : List ℕ) → isPlain d ≡ true → textOf d ≡ true
-plain-text d h = rw (no-mark (ltb (length d) 3) refl, no-zero (eqb (length d) 0) refl) (plain-utf8 d h)
+plain-text : (d : List ℕ) → isPlain d ≡ true → IsText d
+plain-text d h = record { utf8 = plain-utf8 d h; no-mark = no-mark; no-zero = no-zero }
   where
-    no-mark : (b : Bool) → ltb (length d) 3 ≡ b → markedOf d ≡ false
-    no-mark true e = rw e
-    no-mark false e =
-        let y = plain-at d h 0 (omega (arith, ltb-false (length d) 3 e)) in
-        rw (e, ne-eqb (getD d 0 0) 0xef (λ z. omega (arith, y .below)))
+    no-mark : (t : List ℕ) → d ≡ 0xef ∷ 0xbb ∷ 0xbf ∷ t → ⊥
+    no-mark t e =
+        let y = plain-at d h 0 (omega (arith, ap length e)) in
+        omega (arith, y .below, ap (λ (l : List ℕ). getD l 0 0) e)
 
-    no-zero : (b : Bool) → eqb (length d) 0 ≡ b → endsInZero d ≡ false
-    no-zero true e = rw e
-    no-zero false e =
-        let n = eqb-false (length d) 0 e in
-        let y = plain-at d h (length d - 1) (shorter n) in
-        rw (e, ne-eqb (getD d (length d - 1) 0) 0 (λ z. omega (arith, y .above)))
-      where
-        shorter : (length d ≡ 0 → ⊥) → length d - 1 < length d
-        shorter n = omega arith
+    no-zero : (t : List ℕ) → d ≡ t ++ (0x00 ∷ []) → ⊥
+    no-zero t e =
+        let y = plain-at d h (length t) (omega (arith, ap length e, length-append t (0x00 ∷ []))) in
+        omega (arith, y .above, ap (λ (l : List ℕ). getD l (length t) 0) e, getD-at t 0x00 [] 0 (length t) refl)
 
 sized-fine : (b : Bool) (v : Value) → isBadText v ≡ false → isBadText (cond b v Value.Misshapen) ≡ false
 sized-fine true v h = h
 sized-fine false v h = refl
 
-shaped-fine : (s : Shape) (d : List ℕ) → textOf d ≡ true → isBadText (shapedOf s d) ≡ false
+shaped-fine : (s : Shape) (d : List ℕ) → goesWrongOf d ≡ Nowhere → isBadText (shapedOf s d) ≡ false
 shaped-fine Shape.Uuid d h = sized-fine (eqb (length d) 16) _ refl
 shaped-fine Shape.Time d h = sized-fine (eqb (length d) 4) _ refl
 shaped-fine Shape.Word d h = sized-fine (eqb (length d) 4) _ refl
@@ -109,4 +105,4 @@ plain-fine k d h = by (eqb k 0xff) (eqb (length d) 0)
     by : (a b : Bool) → isBadText (cond a Value.End (cond b Value.Empty (shapedOf (recordShape k) d))) ≡ false
     by true b = refl
     by false true = refl
-    by false false = shaped-fine (recordShape k) d (plain-text d h)
+    by false false = shaped-fine (recordShape k) d (nowhere-exactly d .1 (plain-text d h))

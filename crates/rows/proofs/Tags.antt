@@ -30,7 +30,7 @@ told (Value.Time s) = record { bad-text = refl; misshapen = refl; seconds = refl
 told (Value.Number n) = record { bad-text = refl; misshapen = refl; seconds = refl }
 told (Value.Flag t) = record { bad-text = refl; misshapen = refl; seconds = refl }
 told Value.Text = record { bad-text = refl; misshapen = refl; seconds = refl }
-told Value.BadText = record { bad-text = refl; misshapen = refl; seconds = refl }
+told (Value.BadText n) = record { bad-text = refl; misshapen = refl; seconds = refl }
 told Value.Misshapen = record { bad-text = refl; misshapen = refl; seconds = refl }
 told Value.Opaque = record { bad-text = refl; misshapen = refl; seconds = refl }
 

@@ -19,7 +19,7 @@ secondsIn (Value.Time s) = s
 secondsIn (Value.Number n) = 0
 secondsIn (Value.Flag t) = 0
 secondsIn Value.Text = 0
-secondsIn Value.BadText = 0
+secondsIn (Value.BadText n) = 0
 secondsIn Value.Misshapen = 0
 secondsIn Value.Opaque = 0
 

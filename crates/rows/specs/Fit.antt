@@ -19,7 +19,7 @@ isBadText (Value.Time s) = false
 isBadText (Value.Number n) = false
 isBadText (Value.Flag t) = false
 isBadText Value.Text = false
-isBadText Value.BadText = true
+isBadText (Value.BadText n) = true
 isBadText Value.Misshapen = false
 isBadText Value.Opaque = false
 
@@ -31,7 +31,7 @@ isMisshapen (Value.Time s) = false
 isMisshapen (Value.Number n) = false
 isMisshapen (Value.Flag t) = false
 isMisshapen Value.Text = false
-isMisshapen Value.BadText = false
+isMisshapen (Value.BadText n) = false
 isMisshapen Value.Misshapen = true
 isMisshapen Value.Opaque = false
 

@@ -10,7 +10,7 @@ ghost use Rattle.rows.specs.Plain.{plainByte, isPlain};
 fn is_bad_text(v: Value) -> bool
     ensures { λ r. ⌜ r ≡ isBadText v ⌝ }
 {
-    let Value::BadText = v else {
+    let Value::BadText(_) = v else {
         return false;
     };
     true

@@ -18,19 +18,16 @@ use Rattle.body.proofs.FindCall.{find-says, find-only}
 use Rattle.body.proofs.FindCount.{count-says, count-exactly, count-bound, same-answer}
 use Rattle.talcfeather.specs.Numbers.{withZeros, marked, inBytes}
 use Rattle.talcfeather.specs.Find.{TalcFind, findNumbers, foundOf, toldVisited}
+use Rattle.talcfeather.proofs.InBytes.{number-at}
 
 -- ---- the count, as it stands in the answer
-fourth : (x y z v : ℕ) → take 8 (drop 24 (inBytes (x ∷ y ∷ z ∷ v ∷ []))) ≡ bytesLow 8 v
-unfolding inBytes bytesLow
-fourth x y z v = refl
-
 at-24 : (f : Found) → take 8 (drop 24 (inBytes (findNumbers f))) ≡ bytesLow 8 (f .visited)
 at-24 f = by (f .sought)
   where
     by : (s : Sought) → take 8 (drop 24 (inBytes (withZeros 3 (marked (findValues s)) ++ (f .visited ∷ [])))) ≡ bytesLow 8 (f .visited)
-    by (At n p) = fourth 1 n p (f .visited)
-    by Nowhere = fourth 0 0 0 (f .visited)
-    by NotWellFormed = fourth 0 0 0 (f .visited)
+    by (At n p) = number-at (1 ∷ n ∷ p ∷ f .visited ∷ []) 3 (omega arith)
+    by Nowhere = number-at (0 ∷ 0 ∷ 0 ∷ f .visited ∷ []) 3 (omega arith)
+    by NotWellFormed = number-at (0 ∷ 0 ∷ 0 ∷ f .visited ∷ []) 3 (omega arith)
 
 module _ {body uuid answer : List ℕ} {n : ℕ} (c : TalcFind body uuid n answer) where
   counts : Visited body uuid (foundOf body uuid .sought) (foundOf body uuid .visited)

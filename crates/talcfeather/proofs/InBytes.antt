@@ -2,12 +2,12 @@
 use mathlib.Core.Path.{_≡_, refl, sym, ap, ap₂, _∙_}
 use mathlib.Core.Bool.{Bool, true, false}
 use mathlib.Core.List.{List, [], _∷_, _++_, append-nil}
-use Prim.Native.Nat.{ℕ, suc, _+_, _-_, _*_, _/_, _%_, _<_, _≤_}
+use Prim.Native.Nat.{ℕ, zero, suc, _+_, _-_, _*_, _/_, _%_, _<_, _≤_}
 use native.Mathlib.Omega.{arith}
 use borrow.Author.Tests.{ltb-true, ltb-false}
 use lib.Dec.{ltb}
-use lib.ListN.{length, getD, drop, length-append, drop-of-length-le, List·getD-append}
-use lib.Seq.{paste, take-all, getD-append-add}
+use lib.ListN.{length, getD, take, drop, length-append, drop-of-length-le, List·getD-append}
+use lib.Seq.{paste, take-all, take-at, drop-at, drop-drop, getD-append-add}
 use Rattle.words.specs.Numbers.{bytesLow, byteOf}
 use Rattle.words.proofs.NumberLaws.{bytes-sized, byte-is}
 use Rattle.talcfeather.specs.Numbers.{inBytes}
@@ -16,6 +16,17 @@ pub stored-length : (l : List ℕ) → length (inBytes l) ≡ 8 * length l
 unfolding inBytes
 stored-length [] = refl
 stored-length (x ∷ l) = rw length-append (omega (arith, bytes-sized 8 x .long, stored-length l))
+
+-- the number i stands in the bytes from 8 i on
+pub number-at : (l : List ℕ) (i : ℕ) → i < length l → take 8 (drop (8 * i) (inBytes l)) ≡ bytesLow 8 (getD l i 0)
+unfolding inBytes
+number-at [] i h = absurd (omega arith)
+number-at (x ∷ l) zero h = take-at (bytesLow 8 x) (inBytes l) 8 (bytes-sized 8 x .long)
+number-at (x ∷ l) (suc i) h =
+    let e : 8 * suc i ≡ 8 + 8 * i = omega arith in
+    ap (λ (n : ℕ). take 8 (drop n (bytesLow 8 x ++ inBytes l))) e
+    ∙ ap (take 8) (sym (drop-drop (8 * i) 8 (bytesLow 8 x ++ inBytes l)) ∙ ap (drop (8 * i)) (drop-at (bytesLow 8 x) (inBytes l) 8 (bytes-sized 8 x .long)))
+    ∙ number-at l i (omega arith)
 
 -- byte i of stored numbers is byte i % 8 of number i / 8
 abbrev Right : List ℕ → ℕ → Type 0

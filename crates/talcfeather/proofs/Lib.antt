@@ -1,9 +1,10 @@
 pub mod InBytes
-mod Values
+mod UuidValue
 mod Keys
 pub mod OneAnswer
 pub mod AsRead
 pub mod Demands
+pub mod TextSaid
 pub mod FindSaid
 pub mod LateEdits
 pub mod LoginTable

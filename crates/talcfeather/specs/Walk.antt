@@ -1,27 +1,40 @@
 -- talc_walk: its answer is nine numbers.
-use Prim.Native.Nat.{ℕ}
+use Prim.Native.Nat.{ℕ, _^_, _<_}
 use mathlib.Core.Path.{_≡_}
-use mathlib.Core.Bool.{Bool}
-use mathlib.Core.List.{List, _∷_}
-use Rattle.fields.specs.Walk.{walkOf, walkNumber, walkValues}
+use mathlib.Core.Bool.{Bool, cond}
+use mathlib.Core.List.{List}
+use lib.ListN.{length, take, drop}
+use Rattle.words.specs.Numbers.{numberLow}
+use Rattle.fields.specs.Value.{headerShape, recordShape}
+use Rattle.fields.specs.Step.{dataAt, stepOf}
+use Rattle.fields.specs.Walk.{walkOf, walkNumber, walkNumbers}
 use Rattle.fields.specs.declared.Cursor.{Cursor}
-use Rattle.fields.specs.declared.Field.{Field}
-use Rattle.fields.specs.declared.Walked.{Walked}
-use Rattle.fields.specs.declared.Walked.the-variants.{Took}
-use Rattle.talcfeather.specs.Numbers.{withZeros, marked, inBytes}
-
--- 1, and what the walk hands on: the cursor after the field, its type, place and length, and its value
-abbrev pub fieldNumbers : Field → Cursor → List ℕ
-fieldNumbers f d = 1 ∷ walkValues (Took f d)
-
--- zero at the end, and where refused
-abbrev pub walkNumbers : Walked → List ℕ
-walkNumbers w = withZeros 9 (marked (walkValues w))
+use Rattle.fields.specs.declared.Stepped.the-variants.{Took}
+use Rattle.fields.specs.declared.value.Shape.the-variants as Shape
+use Rattle.talcfeather.specs.Numbers.{inBytes}
 
 -- r: in a record, not in the header
-abbrev pub walked : List ℕ → ℕ → Bool → Walked
-walked body place r = walkOf body (record { place = place; «in_record» = r })
+abbrev pub cursor : ℕ → Bool → Cursor
+cursor place r = record { place = place; «in_record» = r }
 
 pub record TalcWalk (body : List ℕ) (place : ℕ) (r : Bool) (number : ℕ) (answer : List ℕ) : Type 0 where
-  pub is-number : number ≡ walkNumber (walked body place r)
-  pub is-answer : answer ≡ inBytes (walkNumbers (walked body place r))
+  pub short : length body < 2 ^ 64
+  pub is-number : number ≡ walkNumber (walkOf body (cursor place r))
+  pub is-answer : answer ≡ inBytes (walkNumbers (walkOf body (cursor place r)))
+
+-- ---- What an answer says of a text (document 02, Q-5)
+-- the walk takes a field of a Text type there, and its data d are not empty
+pub record TextAt (body : List ℕ) (place : ℕ) (r : Bool) (d : List ℕ) : Type 0 where
+  pub kind : ℕ
+  pub next : Cursor
+  pub taken : stepOf body (cursor place r) ≡ Took kind (length d) next
+  pub shape : cond r (recordShape kind) (headerShape kind) ≡ Shape.Text
+  pub content : d ≡ dataAt body place
+  pub some : length d ≡ 0 → ⊥
+
+-- the kind of value that an answer tells, and where the text goes wrong if that is BadText: the numbers at 48 and 56
+abbrev pub toldValueKind : List ℕ → ℕ
+toldValueKind answer = numberLow (take 8 (drop 48 answer))
+
+abbrev pub toldWrong : List ℕ → ℕ
+toldWrong answer = numberLow (take 8 (drop 56 answer))

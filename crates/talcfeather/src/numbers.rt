@@ -1,7 +1,6 @@
 // Numbers in an answer's memory: 8 bytes each, the lowest first.
 use words::numbers::wide_byte;
 ghost use mathlib.Core.Path.{_≡_};
-ghost use mathlib.Core.Bool.{cond};
 ghost use Prim.Native.Nat.{_*_};
 ghost use lib.ListN.{length};
 ghost use Rattle.talcfeather.specs.Numbers.{inBytes};
@@ -15,16 +14,4 @@ pub fn store(numbers: &[u64], memory: &mut [u8])
         memory[i] = wide_byte(numbers[i / 8], (i % 8) as u32);
         i += 1;
     }
-}
-
-pub fn flag(b: bool) -> u64
-    ensures { λ r. ⌜ r ≡ cond b 1 0 ⌝ }
-{
-    if b { 1 } else { 0 }
-}
-
-pub fn wide(x: u8) -> u64
-    ensures { λ r. ⌜ r ≡ x ⌝ }
-{
-    x as u64
 }

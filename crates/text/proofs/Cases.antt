@@ -1,12 +1,14 @@
--- The boundaries of RFC 3629 and document 01's two ends of a text, told of the grammar: each by the decision, which is computed.
+-- The boundaries of RFC 3629, document 01's two ends of a text and document 02's numbers, told of the grammar: each by the answer, which is computed.
 use Prim.Native.Nat.{ℕ}
-use mathlib.Core.Path.{_≡_, refl, sym, ap, _∙_}
-use mathlib.Core.Bool.{Bool, true, false, false≢true}
+use mathlib.Core.Path.{_≡_, refl, ap}
 use mathlib.Core.List.{List, [], _∷_, map}
 use lib.ListN.{getD, drop}
 use Rattle.text.specs.Grammar.{IsText}
-use Rattle.text.specs.Decision.{endsWhole, textOf}
-use Rattle.text.proofs.Text.{text}
+use Rattle.text.specs.GoesWrong.{GoesWrongAt}
+use Rattle.text.specs.Decision.{endsWhole, greatest, goesWrongOf}
+use Rattle.text.specs.declared.Wrong.{Wrong}
+use Rattle.text.specs.declared.Wrong.the-variants.{Nowhere, At}
+use Rattle.text.proofs.GoesWrong.{nowhere-exactly, number-exactly}
 
 abbrev pub texts : List (List ℕ)
 texts =
@@ -30,51 +32,66 @@ texts =
     ∷ (0x41 ∷ 0xe2 ∷ 0x89 ∷ 0xa2 ∷ 0xce ∷ 0x91 ∷ 0x2e ∷ [])
     ∷ []
 
-abbrev pub others : List (List ℕ)
+-- what is no text, and where it goes wrong
+abbrev pub others : List (List ℕ × ℕ)
 others =
     -- overlong
-    (0xc0 ∷ 0x80 ∷ [])
-    ∷ (0xc1 ∷ 0xbf ∷ [])
-    ∷ (0xe0 ∷ 0x9f ∷ 0xbf ∷ [])
-    ∷ (0xf0 ∷ 0x8f ∷ 0xbf ∷ 0xbf ∷ [])
+    (0xc0 ∷ 0x80 ∷ [], 0)
+    ∷ (0xc1 ∷ 0xbf ∷ [], 0)
+    ∷ (0xe0 ∷ 0x9f ∷ 0xbf ∷ [], 0)
+    ∷ (0xf0 ∷ 0x8f ∷ 0xbf ∷ 0xbf ∷ [], 0)
     -- surrogates
-    ∷ (0xed ∷ 0xa0 ∷ 0x80 ∷ [])
-    ∷ (0xed ∷ 0xbf ∷ 0xbf ∷ [])
+    ∷ (0xed ∷ 0xa0 ∷ 0x80 ∷ [], 0)
+    ∷ (0xed ∷ 0xbf ∷ 0xbf ∷ [], 0)
     -- past 10FFFF
-    ∷ (0xf4 ∷ 0x90 ∷ 0x80 ∷ 0x80 ∷ [])
-    ∷ (0xf5 ∷ 0x80 ∷ 0x80 ∷ 0x80 ∷ [])
-    ∷ (0xff ∷ [])
+    ∷ (0xf4 ∷ 0x90 ∷ 0x80 ∷ 0x80 ∷ [], 0)
+    ∷ (0xf5 ∷ 0x80 ∷ 0x80 ∷ 0x80 ∷ [], 0)
+    ∷ (0xff ∷ [], 0)
     -- a further byte alone, one too few, one too many
-    ∷ (0x80 ∷ [])
-    ∷ (0xbf ∷ [])
-    ∷ (0xc2 ∷ [])
-    ∷ (0xe1 ∷ 0x80 ∷ [])
-    ∷ (0xf1 ∷ 0x80 ∷ 0x80 ∷ [])
-    ∷ (0xc2 ∷ 0x80 ∷ 0x80 ∷ [])
+    ∷ (0x80 ∷ [], 0)
+    ∷ (0xbf ∷ [], 0)
+    ∷ (0xc2 ∷ [], 0)
+    ∷ (0xe1 ∷ 0x80 ∷ [], 0)
+    ∷ (0xf1 ∷ 0x80 ∷ 0x80 ∷ [], 0)
+    ∷ (0xc2 ∷ 0x80 ∷ 0x80 ∷ [], 2)
     -- next to a further byte
-    ∷ (0xc2 ∷ 0x7f ∷ [])
-    ∷ (0xc2 ∷ 0xc0 ∷ [])
-    ∷ (0xe1 ∷ 0x80 ∷ 0xc0 ∷ [])
-    -- the byte order mark, alone and before a text
-    ∷ (0xef ∷ 0xbb ∷ 0xbf ∷ [])
-    ∷ (0xef ∷ 0xbb ∷ 0xbf ∷ 0x61 ∷ [])
-    -- ending in 00
-    ∷ (0x00 ∷ [])
-    ∷ (0x61 ∷ 0x00 ∷ [])
+    ∷ (0xc2 ∷ 0x7f ∷ [], 0)
+    ∷ (0xc2 ∷ 0xc0 ∷ [], 0)
+    ∷ (0xe1 ∷ 0x80 ∷ 0xc0 ∷ [], 0)
+    -- behind whole characters: a byte that is none, characters that are cut, several of these
+    ∷ (0x61 ∷ 0xff ∷ 0x62 ∷ [], 1)
+    ∷ (0x61 ∷ 0xc3 ∷ 0xa4 ∷ 0xff ∷ [], 3)
+    ∷ (0x61 ∷ 0xc3 ∷ [], 1)
+    ∷ (0x61 ∷ 0x62 ∷ 0xe2 ∷ 0x82 ∷ [], 2)
+    ∷ (0x61 ∷ 0xf0 ∷ 0x9f ∷ 0x94 ∷ 0x62 ∷ [], 1)
+    ∷ (0x61 ∷ 0xff ∷ 0xff ∷ 0x62 ∷ 0xc3 ∷ [], 1)
+    -- the byte order mark: alone, before a text, with faults behind it
+    ∷ (0xef ∷ 0xbb ∷ 0xbf ∷ [], 0)
+    ∷ (0xef ∷ 0xbb ∷ 0xbf ∷ 0x61 ∷ [], 0)
+    ∷ (0xef ∷ 0xbb ∷ 0xbf ∷ 0x61 ∷ 0xff ∷ [], 0)
+    ∷ (0xef ∷ 0xbb ∷ 0xbf ∷ 0x61 ∷ 0x00 ∷ [], 0)
+    -- ending in 00: only that, and with faults before it
+    ∷ (0x00 ∷ [], 0)
+    ∷ (0x61 ∷ 0x00 ∷ [], 1)
+    ∷ (0x00 ∷ 0x00 ∷ [], 1)
+    ∷ (0xc3 ∷ 0xa4 ∷ 0x00 ∷ [], 2)
+    ∷ (0x61 ∷ 0xff ∷ 0x00 ∷ [], 1)
+    ∷ (0x61 ∷ 0x62 ∷ 0xc3 ∷ 0x00 ∷ [], 2)
     ∷ []
 
 -- P holds of each
-abbrev pub Each : (List ℕ → Type 0) → List (List ℕ) → Type 0
+abbrev pub Each : {A : Type 0} → (A → Type 0) → List A → Type 0
 Each P [] = Unit
-Each P (s ∷ ss) = P s × Each P ss
+Each P (a ∷ l) = P a × Each P l
 
-each : (b : Bool) (P : List ℕ → Type 0) → ((s : List ℕ) → textOf s ≡ b → P s) → (ss : List (List ℕ)) → map textOf ss ≡ map (λ s. b) ss → Each P ss
-each b P h [] e = tt
-each b P h (s ∷ ss) e = (h s (ap (λ (l : List Bool). getD l 0 b) e), each b P h ss (ap (λ (l : List Bool). drop 1 l) e))
+-- told of each by its answer
+each : {A : Type 0} (f g : A → Wrong) (P : A → Type 0) → ((a : A) → f a ≡ g a → P a) → (l : List A) → map f l ≡ map g l → Each P l
+each f g P h [] e = tt
+each f g P h (a ∷ l) e = (h a (ap (λ (l : List Wrong). getD l 0 Nowhere) e), each f g P h l (ap (λ (l : List Wrong). drop 1 l) e))
 
-pub cases : Each IsText texts × Each (λ s. IsText s → ⊥) others
-unfolding endsWhole
+pub cases : Each IsText texts × Each (λ o. GoesWrongAt (o .0) (o .1)) others
+unfolding endsWhole greatest goesWrongOf
 cases = (
-  each true IsText (λ s. text s .0) texts refl,
-  each false (λ s. IsText s → ⊥) (λ s e t. false≢true (sym e ∙ text s .1 t)) others refl,
+  each goesWrongOf (λ s. Nowhere) IsText (λ s. nowhere-exactly s .0) texts refl,
+  each (λ o. goesWrongOf (o .0)) (λ o. At (o .1)) (λ o. GoesWrongAt (o .0) (o .1)) (λ o. number-exactly (o .0) (o .1) .0) others refl,
 )

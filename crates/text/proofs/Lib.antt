@@ -1,5 +1,7 @@
 pub mod Tests
 mod Bytewise
 pub mod Grammar
-pub mod Text
+mod Ends
+mod Greatest
+pub mod GoesWrong
 pub mod Cases

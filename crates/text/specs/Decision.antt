@@ -1,11 +1,14 @@
--- The decision that the code makes: a run over the bytes, and two looks at the ends. It holds exactly for the texts of `Grammar.antt` (proofs/Text.antt).
-use Prim.Native.Nat.{ℕ, _-_}
+-- The decision that the code makes: a run over the bytes, and two looks at the ends. It is `Nowhere` exactly for the texts of `Grammar.antt`, and else gives the number of
+-- `GoesWrong.antt` (both in proofs/GoesWrong.antt).
+use Prim.Native.Nat.{ℕ, zero, suc, _-_}
 use mathlib.Core.List.{List, [], _∷_}
 use mathlib.Core.Bool.{Bool, true, false, cond}
 use lib.Dec.{ltb, leb, eqb}
-use lib.ListN.{length, getD}
+use lib.ListN.{length, take, getD}
 use Rattle.text.specs.declared.Utf8.{Utf8}
 use Rattle.text.specs.declared.Utf8.the-variants.{Start, More, Bad}
+use Rattle.text.specs.declared.Wrong.{Wrong}
+use Rattle.text.specs.declared.Wrong.the-variants.{Nowhere, At}
 
 -- what a first byte lets follow
 abbrev pub firstOf : ℕ → Utf8
@@ -52,6 +55,25 @@ markedOf s =
 abbrev pub endsInZero : List ℕ → Bool
 endsInZero s = cond (eqb (length s) 0) false (eqb (getD s (length s - 1) 0) 0)
 
--- a text
-abbrev pub textOf : List ℕ → Bool
-textOf s = cond (markedOf s) false (cond (endsInZero s) false (utf8Of s))
+-- the greatest number up to n of which p holds, 0 where there is none
+unfoldable pub greatest : (ℕ → Bool) → ℕ → ℕ
+greatest p zero = 0
+greatest p (suc n) = cond (p (suc n)) (suc n) (greatest p n)
+
+-- the number of bytes of the longest well-formed start
+abbrev pub formedStart : List ℕ → ℕ
+formedStart s = greatest (λ n. utf8Of (take n s)) (length s)
+
+-- the number of bytes before a final 00; all where there is none
+abbrev pub beforeFinalZero : List ℕ → ℕ
+beforeFinalZero s = cond (endsInZero s) (length s - 1) (length s)
+
+abbrev pub smallerOf : ℕ → ℕ → ℕ
+smallerOf a b = cond (ltb a b) a b
+
+-- the smallest number that applies, which is the length where nothing is wrong
+abbrev pub rightOf : List ℕ → ℕ
+rightOf s = cond (markedOf s) 0 (smallerOf (formedStart s) (beforeFinalZero s))
+
+unfoldable pub goesWrongOf : List ℕ → Wrong
+goesWrongOf s = cond (ltb (rightOf s) (length s)) (At (rightOf s)) Nowhere

@@ -1,12 +1,19 @@
-// Text: well-formed UTF-8 with neither a byte order mark at its start nor a 00 at its end.
+// Text: well-formed UTF-8 with neither a byte order mark at its start nor a 00 at its end; and where one goes wrong.
 ghost use mathlib.Core.Path.{_≡_};
-ghost use Rattle.text.specs.Decision.{firstOf, afterByte, utf8Of, markedOf, endsInZero, textOf};
+ghost use mathlib.Core.Bool.{cond};
+ghost use Rattle.text.specs.Decision.{firstOf, afterByte, whole, formedStart, markedOf, beforeFinalZero, smallerOf, goesWrongOf};
 
 // What may come next: a first byte; so many further bytes, the next of them within bounds; nothing any more.
 pub enum Utf8 {
     Start,
     More(u8, u8, u8),
     Bad,
+}
+
+// At a number of bytes that are right.
+pub enum Wrong {
+    Nowhere,
+    At(usize),
 }
 
 // What may follow a first byte (RFC 3629, section 4).
@@ -65,21 +72,30 @@ fn step(u: Utf8, b: u8) -> Utf8
     }
 }
 
-// Well-formed UTF-8.
-pub fn valid(s: &[u8]) -> bool
-    ensures { λ r. ⌜ r ≡ utf8Of (now (s .entry)) ⌝ }
+// A place, or the place before where no character ends here.
+fn ended(u: Utf8, here: usize, before: usize) -> usize
+    ensures { λ r. ⌜ r ≡ cond (whole u) here before ⌝ }
+{
+    match u {
+        Utf8::Start => here,
+        Utf8::More(_, _, _) => before,
+        Utf8::Bad => before,
+    }
+}
+
+// The number of bytes of the longest well-formed start.
+pub fn formed_start(s: &[u8]) -> usize
+    ensures { λ r. ⌜ r ≡ formedStart (now (s .entry)) ⌝ }
 {
     let mut u = Utf8::Start;
-    let mut i = 0;
+    let mut n: usize = 0;
+    let mut i: usize = 0;
     while i < s.len() {
         u = step(u, s[i]);
         i += 1;
+        n = ended(u, i, n);
     }
-    match u {
-        Utf8::Start => true,
-        Utf8::More(_, _, _) => false,
-        Utf8::Bad => false,
-    }
+    n
 }
 
 // Starts with the byte order mark EF BB BF.
@@ -98,26 +114,39 @@ fn marked(s: &[u8]) -> bool
     s[2] == 0xbf
 }
 
-// Ends in 00.
-fn ends_in_zero(s: &[u8]) -> bool
-    ensures { λ r. ⌜ r ≡ endsInZero (now (s .entry)) ⌝ }
+// The bytes before a final 00; all where there is none.
+fn before_final_zero(s: &[u8]) -> usize
+    ensures { λ r. ⌜ r ≡ beforeFinalZero (now (s .entry)) ⌝ }
 {
     let n = s.len();
     if n == 0 {
-        return false;
+        return n;
     }
-    s[n - 1] == 0
+    if s[n - 1] == 0 {
+        return n - 1;
+    }
+    n
 }
 
-// Well-formed UTF-8, not starting EF BB BF and not ending in 00.
-pub fn is_text(s: &[u8]) -> bool
-    ensures { λ r. ⌜ r ≡ textOf (now (s .entry)) ⌝ }
+fn smaller(a: usize, b: usize) -> usize
+    ensures { λ r. ⌜ r ≡ smallerOf a b ⌝ }
+{
+    if a < b {
+        return a;
+    }
+    b
+}
+
+// Where a text goes wrong: the smallest number that applies.
+pub fn goes_wrong(s: &[u8]) -> Wrong
+    ensures { λ r. ⌜ r ≡ goesWrongOf (now (s .entry)) ⌝ }
 {
     if marked(s) {
-        return false;
+        return Wrong::At(0);
     }
-    if ends_in_zero(s) {
-        return false;
+    let n = smaller(formed_start(s), before_final_zero(s));
+    if n < s.len() {
+        return Wrong::At(n);
     }
-    valid(s)
+    Wrong::Nowhere
 }

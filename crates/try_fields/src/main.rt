@@ -27,18 +27,18 @@ fn spelt(s: &[u8]) {
     say(b": ");
 }
 
-// The bytes in hexadecimal, and whether they are well-formed UTF-8 and a Text.
+// The bytes in hexadecimal, how many of them are a well-formed start, and whether they are a Text or where it goes wrong.
 fn text_case(s: &[u8]) {
     spelt(s);
-    if text::valid(s) {
-        say(b"well formed, ");
-    } else {
-        say(b"not well formed, ");
-    }
-    if text::is_text(s) {
-        say(b"Text\n");
-    } else {
-        say(b"BadText\n");
+    say(b"well formed to ");
+    number(text::formed_start(s) as u64);
+    match text::goes_wrong(s) {
+        text::Wrong::Nowhere => say(b", Text\n"),
+        text::Wrong::At(n) => {
+            say(b", BadText ");
+            number(n as u64);
+            say(b"\n");
+        }
     }
 }
 
@@ -82,6 +82,13 @@ fn utf8() {
     texts(
         b"\x03\xef\xbb\xbf\x04\xef\xbb\xbfa\x04a\xef\xbb\xbf\x02\xef\xbb\x01\x00\x02a\x00\x02\x00a\x03a\x00b",
     );
+    say(b"-- behind whole characters; several faults, of which the first counts\n");
+    texts(
+        b"\x02a\xff\x03a\xc3\xa4\x04a\xc3\xa4\xff\x03ab\xc3\x04a\xe2\x82b\x05a\xf0\x9f\x94\xa7\x04a\xf0\x9f\x94\x05a\xffb\xff\x00",
+    );
+    texts(
+        b"\x05\xef\xbb\xbfa\xff\x05\xef\xbb\xbfa\x00\x02\x00\x00\x03a\xff\x00\x03a\xc3\x00\x05a\xff\xef\xbb\xbf",
+    );
 }
 
 fn flag(b: bool) {
@@ -113,7 +120,10 @@ fn value(v: Value) {
         Value::Number(n) => named(b" Number ", n),
         Value::Flag(b) => flag(b),
         Value::Text => say(b" Text"),
-        Value::BadText => say(b" BadText"),
+        Value::BadText(n) => {
+            say(b" BadText ");
+            number(n as u64);
+        }
         Value::Misshapen => say(b" Misshapen"),
         Value::Opaque => say(b" Opaque"),
     }

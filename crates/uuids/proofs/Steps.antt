@@ -11,7 +11,7 @@ use Rattle.words.specs.Numbers.{numberLow}
 use Rattle.words.proofs.EachLaws.{both}
 use Rattle.words.proofs.Places.{fourAt, four-at}
 use Rattle.fields.specs.Stored.{roomOf}
-use Rattle.fields.specs.Walk.{lenAt, kindAt, dataAt}
+use Rattle.fields.specs.Step.{lenAt, kindAt, dataAt}
 use Rattle.uuids.specs.Uuids.{isUuidAt, uuidAt, uuidsAmong, uuidsFrom}
 use Rattle.uuids.specs.Table.{idAt}
 use Rattle.uuids.specs.Batches.{NextAt}

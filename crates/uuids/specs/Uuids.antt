@@ -6,7 +6,7 @@ use mathlib.Core.List.{List, [], _∷_, _++_}
 use lib.Dec.{eqb, leb}
 use lib.ListN.{length, getD}
 use Rattle.fields.specs.Stored.{roomOf}
-use Rattle.fields.specs.Walk.{lenAt, kindAt, dataAt}
+use Rattle.fields.specs.Step.{lenAt, kindAt, dataAt}
 use Rattle.uuids.specs.declared.Repeat.{Repeat}
 use Rattle.uuids.specs.declared.Repeat.the-variants.{At, Nothing}
 

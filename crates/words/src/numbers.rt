@@ -1,5 +1,6 @@
 // Numbers in bytes.
 ghost use mathlib.Core.Path.{_≡_};
+ghost use mathlib.Core.Bool.{cond};
 ghost use mathlib.Core.List.{[], _∷_};
 ghost use Prim.Native.Nat.{_+_, _*_, _%_, _<_, _^_};
 ghost use Rattle.words.specs.Numbers.{numberLow, numberHigh, byteOf};
@@ -44,4 +45,17 @@ pub fn bounded(x: u32) -> u32
     ensures { λ r. ⌜ (r ≡ x) × (r < 2 ^ 32) ⌝ }
 {
     x
+}
+
+// Numbers of an answer: 1 for true, and a byte as it is.
+pub fn flag(b: bool) -> u64
+    ensures { λ r. ⌜ r ≡ cond b 1 0 ⌝ }
+{
+    if b { 1 } else { 0 }
+}
+
+pub fn wide(x: u8) -> u64
+    ensures { λ r. ⌜ r ≡ x ⌝ }
+{
+    x as u64
 }

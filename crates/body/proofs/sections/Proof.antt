@@ -3,7 +3,7 @@ use Prim.Native.Nat.{_-_}
 use mathlib.Core.Path.{sym, _∙_}
 use native.Mathlib.Omega.{arith}
 use lib.ListN.{length}
-use Rattle.fields.proofs.Outcomes.{forward, valued, valued-else}
+use Rattle.fields.proofs.Outcomes.{forward}
 use Rattle.body.proofs.Stands.{Stands, stands-start, stands-broken, stands-took, stands-used, stands-ended, at-most-one}
 use borrow.Author.Needs.{needs}
 use Rattle.body.proofs.sections.Statement.{statement}
@@ -22,8 +22,7 @@ returns : tie.Need-returns Inv-loop μ-loop
 returns c =
     let s = c .before .before .before .before .before .before .before .before .args .body .now in
     let at = c .before .before .before .before .loop in
-    let w = valued s (at .c) _ (c .before .step .ensures) in
-    stands-broken s (at .c) (at .x) (at .headers) (at .records) (at .inv) _ (sym w) (c .before .before .if1 .taken) (valued-else s (at .c) (c .before .step .result) (c .match .keys2))
+    stands-broken s (at .c) (at .x) (at .headers) (at .records) (at .inv) _ (c .before .step .ensures) (c .before .before .if1 .taken) (c .match .keys2)
 
 add-headers : tie.Need-add-headers Inv-loop μ-loop
 add-headers c =
@@ -41,15 +40,15 @@ loop-less : tie.Need-loop-less Inv-loop μ-loop
 loop-less c =
     let s = c .before .before .before .before .before .before .before .before .before .before .before .before .before .args .body .now in
     let at = c .before .before .before .before .before .before .before .before .before .loop in
-    let took = valued s (at .c) _ (sym (c .before .before .before .before .kind .given .1) ∙ c .before .before .before .before .before .before .step .ensures) in
-    omega (arith, forward s (at .c) _ _ took)
+    let took = sym (c .before .before .before .before .before .before .step .ensures) ∙ c .before .before .before .before .kind .given .1 in
+    omega (arith, forward s (at .c) _ _ _ took)
 
 loop-again : tie.Need-loop-again Inv-loop μ-loop
 loop-again c =
     let s = c .before .before .before .before .before .before .before .before .before .before .before .before .before .args .body .now in
     let at = c .before .before .before .before .before .before .before .before .before .loop in
-    let took = valued s (at .c) _ (sym (c .before .before .before .before .kind .given .1) ∙ c .before .before .before .before .before .before .step .ensures) in
-    stands-took s (at .c) (at .x) (at .headers) (at .records) (at .inv) _ _ took _ _ _ (c .step2 .ensures) (c .before .before .header-field .ensures) (c .before .record-end .ensures)
+    let took = sym (c .before .before .before .before .before .before .step .ensures) ∙ c .before .before .before .before .kind .given .1 in
+    stands-took s (at .c) (at .x) (at .headers) (at .records) (at .inv) _ _ _ took _ _ _ (c .step2 .ensures) (c .before .before .header-field .ensures) (c .before .record-end .ensures)
 
 returns-2 : tie.Need-returns-2 Inv-loop μ-loop
 returns-2 c =

@@ -4,27 +4,26 @@ use Rattle.words.specs.Numbers.{numberLow}
 use Rattle.words.proofs.Places.{four-at}
 use Rattle.text.proofs.Tests.{tests}
 use Rattle.fields.specs.Stored.{roomOf}
-use Rattle.fields.specs.Walk.{walkOf, lenAt}
-use Rattle.fields.specs.Step.{stepOf}
+use Rattle.fields.specs.Step.{lenAt, stepOf}
 use Rattle.fields.proofs.Outcomes.{short, ended, built}
 use borrow.Author.Needs.{needs}
 use Rattle.fields.proofs.step.Statement.{statement}
 use Rattle.fields.proofs.step.Tie as tie
 
 returns : tie.Need-returns
-unfolding walkOf stepOf
+unfolding stepOf
 returns c = search tests
 
 returns-2 : tie.Need-returns-2
-unfolding walkOf stepOf
+unfolding stepOf
 returns-2 c = search tests
 
 returns-3 : tie.Need-returns-3
-unfolding walkOf stepOf
+unfolding stepOf
 returns-3 c = search tests
 
 returns-4 : tie.Need-returns-4
-unfolding walkOf stepOf
+unfolding stepOf
 returns-4 c = search tests
 
 returns-5 : tie.Need-returns-5

@@ -50,7 +50,7 @@ use Rattle.sha256.proofs.hmac.absorb as absorb
 use Rattle.sha256.proofs.hmac.absorb.Symbol as absorb-def
 use Rattle.sha256.proofs.hmac.absorb.Symbol.{name as #absorb}
 use Rattle.sha256.proofs.hmac.absorb.Met as absorb-thm
-use Rattle.fields.specs.Walk.{dataAt}
+use Rattle.fields.specs.Step.{dataAt}
 use Rattle.body.specs.Decision.{coveredOf}
 use Rattle.mac.specs.Next.{nextOf, Steps}
 use Rattle.mac.proofs.Feeding.{Fed, fed-start, fed-next, fed-end, room}

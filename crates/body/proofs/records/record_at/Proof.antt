@@ -4,7 +4,7 @@ use mathlib.Core.Path.{sym, _∙_}
 use native.Mathlib.Omega.{arith}
 use lib.ListN.{length}
 use borrow.Author.Tests.{ne-eqb}
-use Rattle.fields.proofs.Outcomes.{forward, data-inside, valued, valued-else}
+use Rattle.fields.proofs.Outcomes.{forward, data-inside}
 use Rattle.body.proofs.Keeps.{Keeps, keeps-start, keeps-stop, keeps-else, keeps-end, keeps-took}
 use borrow.Author.Needs.{needs}
 use Rattle.body.proofs.records.record_at.Statement.{statement}
@@ -23,43 +23,42 @@ returns : tie.Need-returns Inv-loop μ-loop
 returns c =
     let g = c .before .before .before .before .before .before .before .args in
     let at = c .before .before .before .before .loop in
-    let w = valued (g .body .now) (at .c) _ (c .before .step .ensures) in
-    keeps-else (g .body .now) (g .at) (at .c) (at .x) (at .n) (at .inv) _ (sym w) (valued-else (g .body .now) (at .c) (c .before .step .result) (c .match .keys2))
+    keeps-else (g .body .now) (g .at) (at .c) (at .x) (at .n) (at .inv) _ (c .before .step .ensures) (c .match .keys2)
 
 returns-2 : tie.Need-returns-2 Inv-loop μ-loop
 returns-2 c =
     let g = c .before .before .before .before .before .before .before .before .before .before .args in
     let at = c .before .before .before .before .before .before .before .loop in
-    let took = valued (g .body .now) (at .c) _ (sym (c .before .before .kind .given .1) ∙ c .before .before .before .before .step .ensures) in
-    keeps-end (g .body .now) (g .at) (at .c) (at .x) (at .n) (at .inv) _ _ took (c .if2 .taken)
+    let took = sym (c .before .before .before .before .step .ensures) ∙ c .before .before .kind .given .1 in
+    keeps-end (g .body .now) (g .at) (at .c) (at .x) (at .n) (at .inv) _ _ _ took (c .if2 .taken)
 
 add-note : tie.Need-add-note Inv-loop μ-loop
 add-note c =
     let g = c .before .before .before .before .before .before .before .before .before .before .before .args in
     let at = c .before .before .before .before .before .before .before .before .loop in
-    let took = valued (g .body .now) (at .c) _ (sym (c .before .before .before .kind .given .1) ∙ c .before .before .before .before .before .step .ensures) in
-    omega (arith, data-inside (g .body .now) (at .c) _ _ took)
+    let took = sym (c .before .before .before .before .before .step .ensures) ∙ c .before .before .before .kind .given .1 in
+    omega (arith, data-inside (g .body .now) (at .c) _ _ _ took)
 
 add-n : tie.Need-add-n Inv-loop μ-loop
 add-n c =
     let g = c .before .before .before .before .before .before .before .before .before .before .before .before .args in
     let at = c .before .before .before .before .before .before .before .before .before .loop in
-    let took = valued (g .body .now) (at .c) _ (sym (c .before .before .before .before .kind .given .1) ∙ c .before .before .before .before .before .before .step .ensures) in
-    omega (arith, at .inv .few, forward (g .body .now) (at .c) _ _ took)
+    let took = sym (c .before .before .before .before .before .before .step .ensures) ∙ c .before .before .before .before .kind .given .1 in
+    omega (arith, at .inv .few, forward (g .body .now) (at .c) _ _ _ took)
 
 loop-less : tie.Need-loop-less Inv-loop μ-loop
 loop-less c =
     let g = c .before .before .before .before .before .before .before .before .before .before .before .before .args in
     let at = c .before .before .before .before .before .before .before .before .before .loop in
-    let took = valued (g .body .now) (at .c) _ (sym (c .before .before .before .before .kind .given .1) ∙ c .before .before .before .before .before .before .step .ensures) in
-    omega (arith, forward (g .body .now) (at .c) _ _ took)
+    let took = sym (c .before .before .before .before .before .before .step .ensures) ∙ c .before .before .before .before .kind .given .1 in
+    omega (arith, forward (g .body .now) (at .c) _ _ _ took)
 
 loop-again : tie.Need-loop-again Inv-loop μ-loop
 loop-again c =
     let g = c .before .before .before .before .before .before .before .before .before .before .before .before .args in
     let at = c .before .before .before .before .before .before .before .before .before .loop in
-    let took = valued (g .body .now) (at .c) _ (sym (c .before .before .before .before .kind .given .1) ∙ c .before .before .before .before .before .before .step .ensures) in
-    keeps-took (g .body .now) (g .at) (at .c) (at .x) (at .n) (at .inv) _ _ took (ne-eqb _ _ (c .before .before .if2 .left)) _ (c .note .ensures)
+    let took = sym (c .before .before .before .before .before .before .step .ensures) ∙ c .before .before .before .before .kind .given .1 in
+    keeps-took (g .body .now) (g .at) (at .c) (at .x) (at .n) (at .inv) _ _ _ took (ne-eqb _ _ (c .before .before .if2 .left)) _ (c .note .ensures)
 
 returns-3 : tie.Need-returns-3 Inv-loop μ-loop
 returns-3 c =

@@ -3,7 +3,7 @@ use Prim.Native.Nat.{_-_}
 use mathlib.Core.Path.{sym, _∙_}
 use native.Mathlib.Omega.{arith}
 use lib.ListN.{length}
-use Rattle.fields.proofs.Outcomes.{forward, data-inside, valued, valued-else}
+use Rattle.fields.proofs.Outcomes.{forward, data-inside}
 use Rattle.body.proofs.Hunt.{Hunts, hunts-start, hunts-stop, hunts-else, hunts-inside, hunts-found, hunts-next}
 use Rattle.body.specs.Search.{searchedOn}
 use borrow.Author.Needs.{needs}
@@ -23,58 +23,57 @@ returns : tie.Need-returns Inv-loop μ-loop
 returns c =
     let g = c .before .before .before .before .before .before .args in
     let at = c .before .before .before .before .loop in
-    let w = valued (g .body .now) (at .c) _ (c .before .step .ensures) in
-    hunts-else (g .body .now) (g .low) (g .high) _ (at .c) (at .x) (at .inv) _ (sym w) (valued-else (g .body .now) (at .c) (c .before .step .result) (c .match .keys2))
+    hunts-else (g .body .now) (g .low) (g .high) _ (at .c) (at .x) (at .inv) _ (c .before .step .ensures) (c .match .keys2)
 
 add-end : tie.Need-add-end Inv-loop μ-loop
 add-end c =
     let g = c .before .before .before .before .before .before .before .before .before .args in
     let at = c .before .before .before .before .before .before .before .loop in
-    let took = valued (g .body .now) (at .c) _ (sym (c .before .before .kind .given .1) ∙ c .before .before .before .before .step .ensures) in
-    omega (arith, data-inside (g .body .now) (at .c) _ _ took)
+    let took = sym (c .before .before .before .before .step .ensures) ∙ c .before .before .kind .given .1 in
+    omega (arith, data-inside (g .body .now) (at .c) _ _ _ took)
 
 part-end : tie.Need-part-is-match-end Inv-loop μ-loop
 part-end c =
     let g = c .before .before .before .before .before .before .before .before .before .args in
     let at = c .before .before .before .before .before .before .before .loop in
-    let took = valued (g .body .now) (at .c) _ (sym (c .before .before .kind .given .1) ∙ c .before .before .before .before .step .ensures) in
-    omega (arith, data-inside (g .body .now) (at .c) _ _ took)
+    let took = sym (c .before .before .before .before .step .ensures) ∙ c .before .before .kind .given .1 in
+    omega (arith, data-inside (g .body .now) (at .c) _ _ _ took)
 
 add-one : tie.Need-add-t22 Inv-loop μ-loop
 add-one c =
     let g = c .before .before .before .before .before .before .before .before .before .before .before .before .before .args in
     let at = c .before .before .before .before .before .before .before .before .before .before .before .loop in
-    let took = valued (g .body .now) (at .c) _ (sym (c .before .before .before .before .before .before .kind .given .1) ∙ c .before .before .before .before .before .before .before .before .step .ensures) in
-    omega (arith, hunts-inside (g .body .now) (g .low) (g .high) _ (at .c) (at .x) (at .inv) _ _ took)
+    let took = sym (c .before .before .before .before .before .before .before .before .step .ensures) ∙ c .before .before .before .before .before .before .kind .given .1 in
+    omega (arith, hunts-inside (g .body .now) (g .low) (g .high) _ (at .c) (at .x) (at .inv) _ _ _ took)
 
 returns-2 : tie.Need-returns-2 Inv-loop μ-loop
 returns-2 c =
     let g = c .before .before .before .before .before .before .before .before .before .before .before .before .before .args in
     let at = c .before .before .before .before .before .before .before .before .before .before .before .loop in
-    let took = valued (g .body .now) (at .c) _ (sym (c .before .before .before .before .before .before .kind .given .1) ∙ c .before .before .before .before .before .before .before .before .step .ensures) in
-    hunts-found (g .body .now) (g .low) (g .high) _ (at .c) (at .x) (at .inv) _ _ took _ (c .before .before .is-match .ensures) (c .before .if2 .taken)
+    let took = sym (c .before .before .before .before .before .before .before .before .step .ensures) ∙ c .before .before .before .before .before .before .kind .given .1 in
+    hunts-found (g .body .now) (g .low) (g .high) _ (at .c) (at .x) (at .inv) _ _ _ took _ (c .before .before .is-match .ensures) (c .before .if2 .taken)
 
 visit-requires : tie.Need-visit-requires Inv-loop μ-loop
 visit-requires c κs =
     let g = c .before .before .before .before .before .before .before .before .before .before .before .before .args in
     let at = c .before .before .before .before .before .before .before .before .before .before .loop in
-    let took = valued (g .body .now) (at .c) _ (sym (c .before .before .before .before .before .kind .given .1) ∙ c .before .before .before .before .before .before .before .step .ensures) in
-    let h = hunts-inside (g .body .now) (g .low) (g .high) _ (at .c) (at .x) (at .inv) _ _ took in
+    let took = sym (c .before .before .before .before .before .before .before .step .ensures) ∙ c .before .before .before .before .before .kind .given .1 in
+    let h = hunts-inside (g .body .now) (g .low) (g .high) _ (at .c) (at .x) (at .inv) _ _ _ took in
     (h .0, omega (arith, h))
 
 loop-less : tie.Need-loop-less Inv-loop μ-loop
 loop-less c =
     let g = c .before .before .before .before .before .before .before .before .before .before .before .before .before .args in
     let at = c .before .before .before .before .before .before .before .before .before .before .before .loop in
-    let took = valued (g .body .now) (at .c) _ (sym (c .before .before .before .before .before .before .kind .given .1) ∙ c .before .before .before .before .before .before .before .before .step .ensures) in
-    omega (arith, forward (g .body .now) (at .c) _ _ took)
+    let took = sym (c .before .before .before .before .before .before .before .before .step .ensures) ∙ c .before .before .before .before .before .before .kind .given .1 in
+    omega (arith, forward (g .body .now) (at .c) _ _ _ took)
 
 loop-again : tie.Need-loop-again Inv-loop μ-loop
 loop-again c =
     let g = c .before .before .before .before .before .before .before .before .before .before .before .before .before .args in
     let at = c .before .before .before .before .before .before .before .before .before .before .before .loop in
-    let took = valued (g .body .now) (at .c) _ (sym (c .before .before .before .before .before .before .kind .given .1) ∙ c .before .before .before .before .before .before .before .before .step .ensures) in
-    hunts-next (g .body .now) (g .low) (g .high) _ (at .c) (at .x) (at .inv) _ _ took _ (c .before .before .is-match .ensures) (c .before .if2 .left) _ (c .visit .ensures)
+    let took = sym (c .before .before .before .before .before .before .before .before .step .ensures) ∙ c .before .before .before .before .before .before .kind .given .1 in
+    hunts-next (g .body .now) (g .low) (g .high) _ (at .c) (at .x) (at .inv) _ _ _ took _ (c .before .before .is-match .ensures) (c .before .if2 .left) _ (c .visit .ensures)
 
 returns-3 : tie.Need-returns-3 Inv-loop μ-loop
 returns-3 c =

@@ -1,8 +1,8 @@
--- `talcfeather::walk::field_numbers` meets its contract: a value has three numbers.
-use Rattle.talcfeather.proofs.Values.{three-numbers}
+-- `fields::answers::field_numbers` meets its contract: a value has three numbers.
+use Rattle.fields.proofs.Numbers.{three-numbers}
 use borrow.Author.Needs.{needs}
-use Rattle.talcfeather.proofs.walk.field_numbers.Statement.{statement}
-use Rattle.talcfeather.proofs.walk.field_numbers.Tie as tie
+use Rattle.fields.proofs.answers.field_numbers.Statement.{statement}
+use Rattle.fields.proofs.answers.field_numbers.Tie as tie
 
 returns : tie.Need-returns
 returns c = rw (c .before .flag .ensures, c .wide .ensures, c .before .before .value-numbers .ensures, three-numbers (c .before .before .before .args .f .value))

@@ -1,10 +1,10 @@
--- `talcfeather::walk::value_numbers` meets its contract, case by case.
+-- `fields::answers::value_numbers` meets its contract, case by case.
 use mathlib.Core.Path.{sym, ap, _∙_}
 use mathlib.Core.List.{[], _∷_}
 use Rattle.fields.specs.Value.{valueNumbers}
 use borrow.Author.Needs.{needs}
-use Rattle.talcfeather.proofs.walk.value_numbers.Statement.{statement}
-use Rattle.talcfeather.proofs.walk.value_numbers.Tie as tie
+use Rattle.fields.proofs.answers.value_numbers.Statement.{statement}
+use Rattle.fields.proofs.answers.value_numbers.Tie as tie
 
 returns-3 : tie.Need-returns-3
 returns-3 c = sym (ap valueNumbers (c .before .v .given .1))
@@ -17,6 +17,9 @@ returns-5 c = sym (ap valueNumbers (c .before .v3 .given .1))
 
 returns-6 : tie.Need-returns-6
 returns-6 c = ap (λ n. 5 ∷ n ∷ 0 ∷ []) (c .flag .ensures) ∙ sym (ap valueNumbers (c .before .before .v4 .given .1))
+
+returns-8 : tie.Need-returns-8
+returns-8 c = sym (ap valueNumbers (c .before .v5 .given .1))
 
 pub value-numbers-spec : {M : Type 1} → statement M
 value-numbers-spec =
@@ -42,6 +45,6 @@ value-numbers-spec =
     returns-5
     returns-6
     (λ c. search needs)
-    (λ c. search needs)
+    returns-8
     (λ c. search needs)
     (λ c. search needs))
