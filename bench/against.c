@@ -1,9 +1,10 @@
 /*
  * This tree's library beside another's, in one run: SHA-256, stretching and Twofish; whole
- * readings; the HMAC over the fields of a body, judging it, reading and writing it. Both are linked,
- * each under names of its own (the Makefile's `against`); the HMAC's is a function inside the
- * library, and not part of its face.
+ * readings; the HMAC over the fields of a body, judging it, walking it, reading and writing it. Both
+ * are linked, each under names of its own (the Makefile's `against`); the HMAC's is a function inside
+ * the library, and not part of its face.
  */
+#include <stdbool.h>
 #include <stdio.h>
 #include <string.h>
 
@@ -19,6 +20,8 @@ struct slice {
 #define SIDE(side)                                                                                 \
     void side##_mac(uint8_t out[32], const uint8_t l[32], const struct slice *body);               \
     uint32_t side##_talc_judge(const uint8_t *body, size_t n, uint8_t answer[16]);                 \
+    uint32_t side##_talc_walk(const uint8_t *body, size_t n, size_t place, bool in_record,         \
+                              uint8_t answer[72]);                                                 \
     uint32_t side##_talc_find(const uint8_t *body, size_t n, const uint8_t uuid[16],               \
                               uint8_t answer[32]);                                                 \
     uint32_t side##_talc_read(const uint8_t *file, size_t n, const uint8_t *p, size_t p_len,       \
@@ -53,6 +56,15 @@ struct slice {
     {                                                                                              \
         if (side##_talc_judge(body, body_len, out) != 0)                                           \
             stop("a body was refused");                                                            \
+    }                                                                                              \
+    static void side##_walks(uint8_t out[32])                                                      \
+    {                                                                                              \
+        uint64_t a[9] = {1};                                                                       \
+        for (a[1] = 0, a[2] = 0; a[0] != 0;) {                                                     \
+            memcpy(out, a, 32);                                                                    \
+            if (side##_talc_walk(body, body_len, a[1], a[2], (uint8_t *)a) != 0)                   \
+                stop("a walk was refused");                                                        \
+        }                                                                                          \
     }                                                                                              \
     static void side##_finds(uint8_t out[32])                                                      \
     {                                                                                              \
@@ -134,6 +146,7 @@ static void hold(const char *what, size_t notes, int small)
     struct contest contests[] = {
         {"HMAC over all fields", "MB/s", 0, 41, NULL, BOTH(macs)},
         {"Judging", "MB/s", 0, 21, NULL, BOTH(judges)},
+        {"Walking, with the values", "MB/s", 0, 21, NULL, BOTH(walks)},
         {"Finding a UUID that is not there", "MB/s", 0, 21, NULL, BOTH(finds)},
         {"Reading, ITER 2,048", "MB/s", 0, 5, NULL, BOTH(reads)},
         {"Writing, ITER 2,048", "MB/s", 0, 5, NULL, BOTH(writes)},

@@ -114,8 +114,10 @@ extern "C" {
  *    they were accepted, and talc_find() found the first. The calls that judge
  *    take more stack: a test held talc_read(), talc_write() and talc_export()
  *    to 16 KB, and holds all five to 64 KB now.
+ * 4: talc_walk() tells where a BADTEXT goes wrong, as its value; before, that
+ *    was 0. No answer has another size.
  */
-#define TALC_VERSION 3
+#define TALC_VERSION 4
 
 /* Refusals, and the calls that give them. */
 #define TALC_OK            0  /* not refused */
@@ -302,7 +304,11 @@ uint32_t talc_write(const uint8_t *passphrase, size_t passphrase_len,
  *   TEXT       well-formed UTF-8 that does not start with EF BB BF and does
  *              not end in 00: header 02, 03, 05 to 0b, 0f, 10, 11; record 02
  *              to 06, 0d to 10, 12, 14, 16, 18, 1c to 20
- *   BADTEXT    one of these types, but no such text
+ *   BADTEXT    one of these types, but no such text. Where it goes wrong: the
+ *              number of bytes of its longest start that is well-formed UTF-8;
+ *              0 where it starts with EF BB BF; its length - 1 where only a
+ *              final 00 offends. Where several apply, the smallest. It is less
+ *              than the length, always.
  *   MISSHAPEN  a type of UUID to FLAG, neither empty nor of its size
  *   OPAQUE     everything else
  */

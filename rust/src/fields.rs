@@ -21,6 +21,16 @@ impl Cursor {
 }
 
 /// What a field's data say.
+///
+/// ```
+/// use talcfeather::{walk, Cursor, Value};
+///
+/// let title = *b"\x05\0\0\0\x03La\xffhe\0\0\0\0\0\0";
+/// let (field, _) = walk(&title, Cursor { place: 0, in_record: true })?.expect("a field");
+/// assert_eq!(field.value, Value::BadText(2));
+/// assert_eq!(&field.data(&title)[..2], b"La");
+/// # Ok::<(), talcfeather::Refusal>(())
+/// ```
 #[derive(Clone, Copy, Debug, PartialEq, Eq)]
 #[non_exhaustive]
 pub enum Value {
@@ -38,8 +48,10 @@ pub enum Value {
     Flag(bool),
     /// Well-formed UTF-8 without a byte order mark or a final 00.
     Text,
-    /// A type that should be text, but is none.
-    BadText,
+    /// A type that should be text, but is none. The number of bytes of its longest start that is
+    /// well-formed UTF-8; 0 where it starts with a byte order mark; its length less 1 where it is well
+    /// formed but for a final 00. Where several apply, the smallest. Less than the length, always.
+    BadText(usize),
     /// A type of fixed size, neither empty nor of its size.
     Misshapen,
     /// Everything else.
@@ -56,7 +68,7 @@ impl Value {
             4 => Value::Number(value as u32),
             5 => Value::Flag(value != 0),
             6 => Value::Text,
-            7 => Value::BadText,
+            7 => Value::BadText(value as usize),
             8 => Value::Misshapen,
             _ => Value::Opaque,
         }

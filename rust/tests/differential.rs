@@ -193,18 +193,21 @@ fn walks() {
 #[test]
 fn whole_walks() {
     let (mut random, mut met) = (Random(32), Met::default());
+    let mut wrong = 0;
     while met.cases() < 20_000 {
         let body = any(&mut random);
         let mut at = Cursor { place: 0, in_record: false };
         loop {
             let case = Walk { body: &body, at };
             let ours = case.ours(&mut random);
+            wrong += u32::from(ours.answer[48] == 7 && ours.answer[56] > 0);
             met.same(ours, case.theirs(), at);
             let Ok(Some((_, next))) = peer::fields::walk(&body, at) else { break };
             at = next;
         }
     }
     met.each_of(&[0, 14], 50);
+    assert!(wrong > 300, "a text went wrong behind its start {wrong} times");
 }
 
 fn append_case(random: &mut Random, met: &mut Met) {

@@ -1,14 +1,25 @@
-//! Find, export, import and row in memory between pages that can't be touched: nothing is read
+//! Walk, find, export, import and row in memory between pages that can't be touched: nothing is read
 //! beyond what is lent, and nothing is written to what is lent for reading.
 
 mod common;
 
-use common::bodies::{any, damage, UUID};
+use common::bodies::{any, damage, field, part, UUID};
 use common::calls::*;
 use common::fenced::Fenced;
 use common::tables::*;
+use peer::fields::Cursor;
 use peer::random::Random;
 use talcfeather::raw;
+
+fn walk(body: &[u8], at: Cursor, before: bool) -> Outcome {
+    let body = Fenced::shown(body, before);
+    let answer = Fenced::new(&[0xEE; 72], before);
+    let number = unsafe {
+        let answer = answer.pointer().cast();
+        raw::talc_walk(body.pointer(), body.len(), at.place, at.in_record, answer)
+    };
+    Outcome { number, answer: answer.content(), memory: Vec::new() }
+}
 
 fn find(body: &[u8], uuid: &[u8; 16], before: bool) -> Outcome {
     let body = Fenced::shown(body, before);
@@ -45,6 +56,27 @@ fn row(table: &[u8], number: usize, before: bool) -> Outcome {
     let number =
         unsafe { raw::talc_row(table.pointer(), table.len(), number, answer.pointer().cast()) };
     Outcome { number, answer: answer.content(), memory: Vec::new() }
+}
+
+/// The body ends with a text, and the text with a character that is whole or cut.
+#[test]
+fn texts() {
+    let whole = ["n", "ä", "密", "🔑"].map(|c| (c.as_bytes(), true));
+    let cut: [&[u8]; 6] = [b"\xc3", b"\xe5", b"\xe5\xaf", b"\xf0", b"\xf0\x9f", b"\xf0\x9f\x94"];
+    let at = Cursor { place: 0, in_record: true };
+    for (end, good) in whole.into_iter().chain(cut.map(|end| (end, false))) {
+        for length in [11, 27, 43] {
+            let text = [&vec![b'n'; length - end.len()], end].concat();
+            let body = field(&mut Random(4), &part(0x03, &text));
+            assert_eq!(body.len(), 5 + length, "no fill");
+            let told = if good { [6, 0] } else { [7, (length - end.len()) as u8] };
+            for before in [true, false] {
+                let ours = walk(&body, at, before);
+                assert_eq!([ours.answer[48], ours.answer[56]], told, "{text:x?}");
+                assert_eq!(ours, Walk { body: &body, at }.theirs());
+            }
+        }
+    }
 }
 
 #[test]

@@ -64,6 +64,29 @@ static void finds(void)
     printf(" ");
 }
 
+/*
+ * Titles: of text, with a byte FF, with a final 00, with a cut character, with a byte order mark
+ * before FF. For each, whether it is damaged, where, and what stands in the second half.
+ */
+static void texts(void)
+{
+    static const uint8_t titles[5][16] = {
+        {5, 0, 0, 0, 0x03, 'L', 'a', 't', 'h', 'e'},
+        {5, 0, 0, 0, 0x03, 'L', 'a', 0xff, 'h', 'e'},
+        {6, 0, 0, 0, 0x03, 'L', 'a', 't', 'h', 'e', 0},
+        {4, 0, 0, 0, 0x03, 'L', 'a', 't', 0xc3},
+        {5, 0, 0, 0, 0x03, 0xef, 0xbb, 0xbf, 'L', 0xff},
+    };
+    uint8_t answer[TALC_WALK_ANSWER];
+    for (int i = 0; i < 5; i++) {
+        memset(answer, 0xEE, sizeof answer);
+        talc_walk(titles[i], sizeof titles[i], 0, true, answer);
+        printf("%d ", talc_number(answer + 48) == TALC_VALUE_BADTEXT);
+        printf("%u ", (unsigned)talc_number(answer + 56));
+        printf("%u ", (unsigned)talc_number(answer + 64));
+    }
+}
+
 /* The same record twice; then the second with another UUID. */
 static void doubles(void)
 {
@@ -129,6 +152,7 @@ int main(void)
     printf(" %u", (unsigned)talc_replay(state, sizeof state, mixed, sizeof mixed, replay));
     printf(" %u ", (unsigned)talc_number(replay));
     finds();
+    texts();
     doubles();
     tables();
     return left != 0 || talc_number(read) != 0;

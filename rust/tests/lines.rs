@@ -278,11 +278,8 @@ fn same_text(data: &[u8]) {
     title(&mut body, data);
     let walked = talcfeather::walk(&body, talcfeather::Cursor { place: 0, in_record: true });
     let value = walked.unwrap().unwrap().0.value;
-    let expected = match peer::text::is_text(data) {
-        true => talcfeather::Value::Text,
-        false => talcfeather::Value::BadText,
-    };
-    assert_eq!(value, expected, "{data:x?}");
+    let (text, bad) = (talcfeather::Value::Text, talcfeather::Value::BadText);
+    assert_eq!(value, peer::text::goes_wrong(data).map_or(text, bad), "{data:x?}");
 }
 
 /// Every text of one and two bytes, and all of three to five bytes from those that decide.
@@ -303,6 +300,7 @@ fn texts() {
             for d in deciding {
                 same_text(&[a, b, c, d]);
                 same_text(&[a, b, c, d, 0x41]);
+                same_text(&[a, b, c, d, 0xff]);
                 same_text(&[0xc3, 0xa4, a, b, c, d]);
             }
         }

@@ -134,10 +134,7 @@ fn unfit() -> Vec<(Part, &'static str)> {
             "Drehbank Drehbank Drehba..\": its title has 81 bytes, and the table has room for 80: \
              shorten it",
         ),
-        (part(TITLE, b"Lat\x1b\xff"), "\"Lat\\u{1b}\u{fffd}\": its title is damaged text: type it"),
-        (part(USER, b"\xef\xbb\xbfworker"), "\"Lathe\": its user name is damaged text: type it"),
         (part(USER, b"worker\0"), "\"Lathe\": its user name has a zero byte in it: type it again"),
-        (part(GROUP, b"Floor \xc3"), "\"Lathe\": its group is damaged text: type it again"),
         (
             part(GROUP, b"Fl\0or"),
             "\"Lathe\": its group has a zero byte in it: type it again without",
@@ -147,12 +144,42 @@ fn unfit() -> Vec<(Part, &'static str)> {
     ]
 }
 
+/// Those with a text that goes wrong. A zero byte is told before that, and that before the length.
+fn damaged() -> Vec<(Part, &'static str)> {
+    vec![
+        (
+            part(TITLE, b"Lat\x1b\xff"),
+            "\"Lat\\u{1b}\u{fffd}\": its title goes wrong at byte 4 (from 0), not UTF-8: \
+             \"Lat\\u{1b}\" ff: type it again",
+        ),
+        (
+            part(USER, b"\xef\xbb\xbfworker"),
+            "\"Lathe\": its user name goes wrong at byte 0 (from 0), a byte order mark: \
+             ef bb bf \"worker\": type it again",
+        ),
+        (
+            part(USER, &[&[b'n'; 90], &b"\xf6\xdf 2"[..]].concat()),
+            "\"Lathe\": its user name goes wrong at byte 90 (from 0), not UTF-8: \
+             ..\"nnnnnnnnnnnnnnnnnnnn\" f6 df \" 2\": type it again",
+        ),
+        (
+            part(GROUP, b"Floor \xc3"),
+            "\"Lathe\": its group goes wrong at byte 6 (from 0), cut within a character: \
+             \"Floor \" c3: type it again",
+        ),
+        (
+            part(GROUP, b"\xffFl\0or"),
+            "\"Lathe\": its group has a zero byte in it: type it again without",
+        ),
+    ]
+}
+
 /// Such a safe is told in words, with no password, and OUT is what it was.
 #[test]
 fn unfit_logins() {
     let folder = Folder::new("table-unfit");
     let (out, held) = (folder.0.join("new.table"), folder.put("held.table", &two_rows(7)));
-    for (field, words) in unfit() {
+    for (field, words) in unfit().into_iter().chain(damaged()) {
         let file = folder.put("a.psafe3", &safe_of(&[field]));
         for out in [&out, &held] {
             let ended = table(&file, out, "5");
@@ -169,32 +196,67 @@ fn unfit_logins() {
     }
 }
 
-/// Tables at fault, each with the words for it.
-#[test]
-fn rows_at_fault() {
-    let folder = Folder::new("rows-fault");
-    let with = |byte: usize, bytes: &[u8]| {
-        let mut table = two_rows(NOW).repeat(2);
-        table[byte..byte + bytes.len()].copy_from_slice(bytes);
-        table
-    };
-    let cases = [
-        (two_rows(NOW)[..255].to_vec(), "row 0, at byte 0: it is cut: 255 of 256 bytes"),
-        (two_rows(NOW)[..257].to_vec(), "row 1, at byte 256: it is cut: 1 of 256 bytes"),
-        (with(256 + 16, &[0xff]), "row 1, at byte 256: its title is damaged text"),
-        (with(512 + 96, b"\xef\xbb\xbf"), "row 2, at byte 512: its user name is damaged text"),
-        (with(512 + 247, b"x"), "row 2, at byte 512: its group has something after its end"),
-        (with(768 + 252, &[1]), "row 3, at byte 768: its pad is not zero"),
-        (with(768 + 255, &[1]), "row 3, at byte 768: its pad is not zero"),
-    ];
+/// A table of four rows with these bytes in it.
+fn table_with(byte: usize, bytes: &[u8]) -> Vec<u8> {
+    let mut table = two_rows(NOW).repeat(2);
+    table[byte..byte + bytes.len()].copy_from_slice(bytes);
+    table
+}
+
+/// Each table is refused with the words for it, and is what it was.
+fn refused_rows(name: &str, cases: &[(Vec<u8>, &str)]) {
+    let folder = Folder::new(name);
     for (bytes, words) in cases {
-        let file = folder.put("floor.table", &bytes);
+        let file = folder.put("floor.table", bytes);
         let ended = rows(&file);
         assert_eq!((ended.status, ended.out.as_str()), (18, ""), "{}", ended.err);
         let told = format!("talc: {}: refused, 18: {words}: copy the table again", file.display());
         assert!(ended.err.starts_with(&told), "{}", ended.err);
-        assert!(fs::read(&file).unwrap() == bytes);
+        assert!(fs::read(&file).unwrap() == *bytes);
     }
+}
+
+#[test]
+fn rows_at_fault() {
+    let cases = [
+        (two_rows(NOW)[..255].to_vec(), "row 0, at byte 0: it is cut: 255 of 256 bytes"),
+        (two_rows(NOW)[..257].to_vec(), "row 1, at byte 256: it is cut: 1 of 256 bytes"),
+        (table_with(512 + 247, b"x"), "row 2, at byte 512: its group has something after its end"),
+        (table_with(768 + 252, &[1]), "row 3, at byte 768: its pad is not zero"),
+        (table_with(768 + 255, &[1]), "row 3, at byte 768: its pad is not zero"),
+    ];
+    refused_rows("rows-fault", &cases);
+}
+
+#[test]
+fn texts_of_rows_that_go_wrong() {
+    let cases = [
+        (
+            table_with(256 + 16, &[0xff]),
+            "row 1, at byte 256: its title goes wrong at byte 0 (from 0), not UTF-8: ff \"rinter\"",
+        ),
+        (
+            table_with(512 + 96, b"\xef\xbb\xbf"),
+            "row 2, at byte 512: its user name goes wrong at byte 0 (from 0), a byte order mark: \
+             ef bb bf \"ker\"",
+        ),
+        (
+            table_with(512 + 96 + 6, b"\xe5\xaf"),
+            "row 2, at byte 512: its user name goes wrong at byte 6 (from 0), cut within a \
+             character: \"worker\" e5 af",
+        ),
+        (
+            table_with(512 + 176, &[&[b'n'; 71], &b"\xc3"[..]].concat()),
+            "row 2, at byte 512: its group goes wrong at byte 71 (from 0), cut within a character: \
+             ..\"nnnnnnnnnnnnnnnnnnnn\" c3",
+        ),
+        (
+            table_with(512 + 176 + 5, &[0xff]),
+            "row 2, at byte 512: its group goes wrong at byte 5 (from 0), not UTF-8: \"Floor\" ff \
+             \"Lathes\"",
+        ),
+    ];
+    refused_rows("rows-text", &cases);
 }
 
 /// What is no table keeps its place: the safe itself, another file, a folder, a link, a device.

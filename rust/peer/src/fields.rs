@@ -1,6 +1,6 @@
 //! Fields: the walk, the values, append.
 
-use crate::text::is_text;
+use crate::text::goes_wrong;
 
 pub const END: u8 = 0xff;
 pub const LONGEST_BODY: usize = 4_194_096;
@@ -14,7 +14,7 @@ pub enum Value {
     Number(u32),
     Flag(bool),
     Text,
-    BadText,
+    BadText(usize),
     Misshapen,
     Opaque,
 }
@@ -95,8 +95,7 @@ fn value(kind: u8, in_record: bool, data: &[u8]) -> Value {
         (Shape::Time, 4) => Value::Time(number(data) as u32),
         (Shape::Number(n), m) if n == m => Value::Number(number(data) as u32),
         (Shape::Flag, 1) => Value::Flag(data[0] != 0),
-        (Shape::Text, _) if is_text(data) => Value::Text,
-        (Shape::Text, _) => Value::BadText,
+        (Shape::Text, _) => goes_wrong(data).map_or(Value::Text, Value::BadText),
         (Shape::Other, _) => Value::Opaque,
         _ => Value::Misshapen,
     }

@@ -7,6 +7,8 @@ use peer::safe::{read, write};
 use peer::saved::{files, listing_of};
 use peer::stretch::stretch;
 use peer::table::{days, export, import, row, Refused, Row};
+use peer::text::{goes_wrong, is_text};
+use std::collections::HashSet;
 
 #[test]
 fn sizes_of_fields() {
@@ -51,7 +53,7 @@ fn values_of_a_record() {
         (0x15, &[2], Value::Flag(true)),
         (0x13, &[255, 0], Value::Number(255)),
         (0x03, "ä".as_bytes(), Value::Text),
-        (0x03, &[0xff], Value::BadText),
+        (0x03, &[b'a', 0xff], Value::BadText(1)),
         (0x1b, &[1], Value::Opaque),
         (0x1b, &[], Value::Empty),
     ];
@@ -60,6 +62,83 @@ fn values_of_a_record() {
         append(&mut buffer, 0, kind, data, &vec![0; 11 - data.len()]).unwrap();
         let (field, _) = walk(&buffer, Cursor { place: 0, in_record: true }).unwrap().unwrap();
         assert_eq!(field.value, value);
+    }
+}
+
+/// Each sentence of the request by hand: the longest well-formed start, a byte order mark, a final
+/// 00, and several of them.
+#[test]
+fn where_a_text_goes_wrong() {
+    let cases: [(&[u8], usize); 27] = [
+        (b"\xff", 0),
+        (b"\x80abc", 0),
+        (b"ab\xffcd", 2),
+        (b"ab\xffcd\xfe", 2),
+        (b"\xc3\xa4\xc3\xc3\xa4", 2),
+        (b"abc\xc0\x80", 3),
+        (b"a\xe0\x9f\xbf", 1),
+        (b"a\xed\xa0\x80", 1),
+        (b"a\xf4\x90\x80\x80", 1),
+        (b"abc\xc3", 3),
+        (b"abc\xe5\xaf", 3),
+        (b"abc\xf0\x9f\x94", 3),
+        (b"\xf0\x9f\x94", 0),
+        (b"\xef\xbb", 0),
+        (b"a\xef\xbb", 1),
+        (b"\xef\xbb\xbf", 0),
+        (b"\xef\xbb\xbfabc", 0),
+        (b"\xef\xbb\xbfabc\xffd", 0),
+        (b"\xef\xbb\xbfabc\0", 0),
+        (b"\0", 0),
+        (b"\0\0\0", 2),
+        (b"abc\0", 3),
+        (b"a\0c\0", 3),
+        (b"\xc3\xa4\0", 2),
+        (b"a\xffc\0", 1),
+        (b"abc\xc3\0", 3),
+        (b"a\0\xff", 2),
+    ];
+    for (data, at) in cases {
+        assert_eq!((goes_wrong(data), is_text(data)), (Some(at), false), "{data:x?}");
+    }
+    let texts: [&[u8]; 6] =
+        [b"", b"abc", b"\0a", b"a\0\0c", b"a\xef\xbb\xbf", b"\xef\xbb\xbe\xf4\x8f\xbf\xbf"];
+    for data in texts {
+        assert_eq!((goes_wrong(data), is_text(data)), (None, true), "{data:x?}");
+    }
+}
+
+/// Whether the data are characters one after the other.
+fn formed(data: &[u8], characters: &HashSet<Vec<u8>>) -> bool {
+    let ends = 1..=data.len();
+    let mut firsts = ends.map(|end| data.split_at(end)).filter(|(c, _)| characters.contains(*c));
+    data.is_empty() || firsts.any(|(_, rest)| formed(rest, characters))
+}
+
+/// The same by a second reading, for all texts of at most four of the bytes that decide: of all starts
+/// the longest that is characters, each of them the UTF-8 of a `char`.
+#[test]
+fn the_longest_well_formed_start() {
+    let characters = ('\0'..=char::MAX).map(|c| c.to_string().into_bytes()).collect();
+    let deciding = [
+        0x00, 0x41, 0x7f, 0x80, 0x8f, 0x90, 0x9f, 0xa0, 0xbb, 0xbf, 0xc0, 0xc1, 0xc2, 0xdf, 0xe0,
+        0xe1, 0xec, 0xed, 0xee, 0xef, 0xf0, 0xf1, 0xf3, 0xf4, 0xf5, 0xff,
+    ];
+    let mut texts = vec![Vec::new()];
+    for at in 0..1 + 26 + 26 * 26 + 26 * 26 * 26 {
+        let longer = deciding.map(|byte| [&texts[at][..], &[byte]].concat());
+        texts.extend(longer);
+    }
+    assert_eq!(texts.iter().filter(|data| data.len() == 4).count(), 26 * 26 * 26 * 26);
+    for data in &texts {
+        let mut starts = (0..=data.len()).rev();
+        let longest = starts.find(|end| formed(&data[..*end], &characters)).unwrap();
+        let at = match data.as_slice() {
+            [0xef, 0xbb, 0xbf, ..] => Some(0),
+            [.., 0] if longest == data.len() => Some(longest - 1),
+            _ => Some(longest).filter(|longest| *longest < data.len()),
+        };
+        assert_eq!(goes_wrong(data), at, "{data:x?}");
     }
 }
 

@@ -136,7 +136,7 @@ fn value_numbers(value: Value) -> [u64; 3] {
         Value::Number(number) => [4, number.into(), 0],
         Value::Flag(flag) => [5, flag.into(), 0],
         Value::Text => [6, 0, 0],
-        Value::BadText => [7, 0, 0],
+        Value::BadText(at) => [7, at as u64, 0],
         Value::Misshapen => [8, 0, 0],
         Value::Opaque => [9, 0, 0],
     }
@@ -156,7 +156,10 @@ impl Walk<'_> {
             )
         };
         body.unchanged();
-        Outcome { number, answer: answer.content(), memory: Vec::new() }
+        let answer = answer.content();
+        let at = |offset| u64::from_le_bytes(answer[offset..offset + 8].try_into().unwrap());
+        assert!(at(48) != 7 || at(56) < at(40), "a text goes wrong within its data");
+        Outcome { number, answer, memory: Vec::new() }
     }
 
     pub fn theirs(&self) -> Outcome {

@@ -14,7 +14,10 @@ talc reads Password Safe V3 files.
   talc list FILE --state STATE
                           the same with a fifth column: cancelled, or nothing
   talc fields FILE        every field: place, type, length, kind of value, and
-                          value; UUIDs are among them
+                          value; UUIDs are among them. Of damaged text, which
+                          is BadText, it says at which byte, from 0, it goes
+                          wrong: in hex what makes no character, in quotation
+                          marks what can be read around that
   talc find FILE UUID     the record with that UUID, and its fields
   talc resave FILE OUT    writes the file again to OUT with its own values, and
                           says whether it is byte for byte the same; OUT is
@@ -37,7 +40,7 @@ talc reads Password Safe V3 files.
                           days, expired or no expiry; aligned as list is
 
 Passwords, their history, two-factor keys, card data and QR codes are never
-shown.
+shown; of such text that is damaged, only that byte's number is.
 
   --passphrase-file F     takes the passphrase from the file F
   --passphrase-stdin      takes the passphrase from standard input

@@ -110,8 +110,8 @@ pub fn each_field(
 fn field_line(field: &Field, in_record: bool, body: &[u8]) -> String {
     let name = names::name(field.kind, in_record);
     let kind = show::kind(field.value);
-    let value = match names::is_secret(field.kind, in_record) && field.length > 0 {
-        true => "(hidden)".to_string(),
+    let value = match names::is_secret(field.kind, in_record) {
+        true => show::hidden(field.value),
         false => show::value(field, body),
     };
     let (place, number, length) = (field.place, field.kind, field.length);

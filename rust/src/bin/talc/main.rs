@@ -4,6 +4,7 @@
 mod arguments;
 mod columns;
 mod commands;
+mod fault;
 mod files;
 mod list;
 mod names;

@@ -1,5 +1,6 @@
 //! Values as a person reads them.
 
+use crate::fault;
 use talcfeather::{Field, Value};
 
 /// Control characters, and those that change the direction of a line.
@@ -78,7 +79,7 @@ pub fn kind(value: Value) -> &'static str {
         Value::Number(_) => "Number",
         Value::Flag(_) => "Flag",
         Value::Text => "Text",
-        Value::BadText => "BadText",
+        Value::BadText(_) => "BadText",
         Value::Misshapen => "Misshapen",
         _ => "Opaque",
     }
@@ -91,8 +92,18 @@ pub fn value(field: &Field, body: &[u8]) -> String {
         Value::Time(seconds) => time(seconds),
         Value::Number(number) => number.to_string(),
         Value::Flag(flag) => flag.to_string(),
-        Value::Text | Value::BadText => short(field.data(body)),
+        Value::Text => short(field.data(body)),
+        Value::BadText(byte) => format!("text {}", fault::told(field.data(body), byte)),
         _ => String::new(),
+    }
+}
+
+/// What is said of a field that is not shown: of damaged text where, and nothing that it holds.
+pub fn hidden(value: Value) -> String {
+    match value {
+        Value::Empty => String::new(),
+        Value::BadText(byte) => format!("(hidden) text {}", fault::at(byte)),
+        _ => "(hidden)".to_string(),
     }
 }
 

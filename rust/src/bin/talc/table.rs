@@ -3,7 +3,7 @@
 use crate::columns::{self, Line};
 use crate::commands::each_field;
 use crate::trouble::Trouble;
-use crate::{files, show};
+use crate::{fault, files, show};
 use std::path::Path;
 use std::time::{SystemTime, UNIX_EPOCH};
 use talcfeather::{
@@ -83,8 +83,8 @@ fn unfit_field(field: &Field, data: &[u8]) -> String {
     };
     if data.contains(&0) {
         format!("its {name} has a zero byte in it: type it again without")
-    } else if field.value == Value::BadText {
-        format!("its {name} is damaged text: type it again")
+    } else if let Value::BadText(byte) = field.value {
+        format!("its {name} {}: type it again", fault::told(data, byte))
     } else {
         format!("its {name} has {length} bytes, and the table has room for {room}: shorten it")
     }
@@ -132,13 +132,12 @@ fn at_fault(table: &[u8], number: u64) -> String {
     format!("row {number}, at byte {place}: {why}: copy the table again, or export it again")
 }
 
-fn text_at_fault(room: &[u8]) -> Option<&'static str> {
+fn text_at_fault(room: &[u8]) -> Option<String> {
     let end = room.iter().position(|byte| *byte == 0).unwrap_or(room.len());
     let (text, after) = room.split_at(end);
-    if std::str::from_utf8(text).is_err() || text.starts_with(b"\xef\xbb\xbf") {
-        return Some("is damaged text");
-    }
-    after.iter().any(|byte| *byte != 0).then_some("has something after its end")
+    let wrong = fault::of_column(text).map(|byte| fault::told(text, byte));
+    let more = || after.iter().any(|byte| *byte != 0).then(|| "has something after its end".into());
+    wrong.or_else(more)
 }
 
 #[test]
