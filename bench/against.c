@@ -1,8 +1,8 @@
 /*
  * This tree's library beside another's, in one run: SHA-256, stretching and Twofish; whole
- * readings; the HMAC over the fields of a body, judging it, walking it, reading and writing it. Both
- * are linked, each under names of its own (the Makefile's `against`); the HMAC's is a function inside
- * the library, and not part of its face.
+ * readings; the HMAC over the fields of a body, judging it, walking it, finding in it, reading and
+ * writing it. Both are linked, each under names of its own (the Makefile's `against`); the HMAC's is
+ * a function inside the library, and not part of its face.
  */
 #include <stdbool.h>
 #include <stdio.h>

@@ -48,9 +48,9 @@ pub enum Value {
     Flag(bool),
     /// Well-formed UTF-8 without a byte order mark or a final 00.
     Text,
-    /// A type that should be text, but is none. The number of bytes of its longest start that is
-    /// well-formed UTF-8; 0 where it starts with a byte order mark; its length less 1 where it is well
-    /// formed but for a final 00. Where several apply, the smallest. Less than the length, always.
+    /// A type that should be text, but is none. Where it goes wrong: the number of bytes of its longest
+    /// start that is well-formed UTF-8; 0 where it starts with a byte order mark; its length less 1
+    /// where only a final 00 offends. Where several apply, the smallest. Less than the length, always.
     BadText(usize),
     /// A type of fixed size, neither empty nor of its size.
     Misshapen,

@@ -13,7 +13,7 @@ use Rattle.fields.specs.declared.value.Value.{Value}
 use Rattle.fields.specs.declared.Walked.{Walked}
 use Rattle.fields.specs.declared.Walked.the-variants.{Took, Finished, Misplaced, Broken}
 
--- values: in a record, and not in the header; the type; the data
+-- a value, by whether it is in a record (else in the header), the type and the data
 abbrev pub Values : Type 0
 Values = Bool → ℕ → List ℕ → Value
 

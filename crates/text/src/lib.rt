@@ -10,7 +10,7 @@ pub enum Utf8 {
     Bad,
 }
 
-// At a number of bytes that are right.
+// Where a text goes wrong: nowhere, or behind so many bytes that are right.
 pub enum Wrong {
     Nowhere,
     At(usize),
@@ -72,7 +72,7 @@ fn step(u: Utf8, b: u8) -> Utf8
     }
 }
 
-// A place, or the place before where no character ends here.
+// This place where a character ends here, else the one before.
 fn ended(u: Utf8, here: usize, before: usize) -> usize
     ensures { λ r. ⌜ r ≡ cond (whole u) here before ⌝ }
 {

@@ -16,8 +16,8 @@ talc reads Password Safe V3 files.
   talc fields FILE        every field: place, type, length, kind of value, and
                           value; UUIDs are among them. Of damaged text, which
                           is BadText, it says at which byte, from 0, it goes
-                          wrong: in hex what makes no character, in quotation
-                          marks what can be read around that
+                          wrong: in hex the bytes at fault, in quotation marks
+                          the text around them
   talc find FILE UUID     the record with that UUID, and its fields
   talc resave FILE OUT    writes the file again to OUT with its own values, and
                           says whether it is byte for byte the same; OUT is

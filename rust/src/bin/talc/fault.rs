@@ -10,8 +10,8 @@ pub fn at(byte: usize) -> String {
     format!("goes wrong at byte {byte} (from 0)")
 }
 
-/// Also why, and what stands there: in hex what makes no character, in quotation marks what can be
-/// read before it and behind it.
+/// Also why, and what stands there: in hex the bytes at fault, in quotation marks what can be read
+/// before them and behind them.
 pub fn told(data: &[u8], byte: usize) -> String {
     let (before, rest) = data.split_at(byte.min(data.len()));
     let (wrong, after) = rest.split_at(length_of_fault(rest));
