@@ -10,7 +10,7 @@ use borrow.Author.Tests.{eq-eqb, eqb-true}
 use Rattle.words.specs.Each.{Each}
 use Rattle.fields.specs.Stored.{Stored, bytesOf, roomOf}
 use Rattle.fields.specs.Step.{start, endWithData}
-use Rattle.fields.specs.Walk.{Values, walkBy}
+use Rattle.fields.specs.Walk.{ValueFunction, walkBy}
 use Rattle.fields.specs.declared.Cursor.{Cursor}
 use Rattle.fields.specs.declared.Field.{Field}
 use Rattle.fields.specs.declared.Walked.the-variants.{Took, Finished}
@@ -21,12 +21,12 @@ use Rattle.body.specs.Division.{Whole, joined, Divides}
 use Rattle.body.proofs.Division.{whole-fill}
 
 -- the walk from a cursor on: the fields that it takes, then the end
-pub data Visits (v : Values) (s : List ℕ) : Cursor → List Field → Type 0 where
+pub data Visits (v : ValueFunction) (s : List ℕ) : Cursor → List Field → Type 0 where
   ends : {c : Cursor} → walkBy v s c ≡ Finished → Visits v s c []
   takes : {c d : Cursor} {f : Field} {fs : List Field} → walkBy v s c ≡ Took f d → Visits v s d fs → Visits v s c (f ∷ fs)
 
 -- the stored fields as the walk shows them, from place p on
-abbrev pub shownFrom : Values → Bool → ℕ → List Stored → List Field
+abbrev pub shownFrom : ValueFunction → Bool → ℕ → List Stored → List Field
 shownFrom v r p [] = []
 shownFrom v r p (f ∷ fs) = shown v r p f ∷ shownFrom v (r || eqb (f .kind) 0xff) (p + roomOf (length (f .content))) fs
 
@@ -41,7 +41,7 @@ no-data f h = by (eqb (f .kind) 0xff) refl
     by true e = rw (eq-eqb (length (f .content)) 0 (h (eqb-true (f .kind) 0xff e)))
     by false e = refl
 
-from : (v : Values) (a : List ℕ) (fs : List Stored) (s : List ℕ) (r : Bool) → length a % 16 ≡ 0 → Each Whole fs → Each EmptyEnd fs → s ≡ a ++ joined fs
+from : (v : ValueFunction) (a : List ℕ) (fs : List Stored) (s : List ℕ) (r : Bool) → length a % 16 ≡ 0 → Each Whole fs → Each EmptyEnd fs → s ≡ a ++ joined fs
     → Visits v s (record { place = length a; «in_record» = r }) (shownFrom v r (length a) fs)
 from v a [] s r al w n e = ends (valued v s _ _ (at-end s _ al (sym (ap length (e ∙ append-nil a)))))
 from v a (f ∷ fs) s r al w n e =
@@ -52,6 +52,6 @@ from v a (f ∷ fs) s r al w n e =
     takes (ap (λ (l : List ℕ). walkBy v l (record { place = length a; «in_record» = r })) e ∙ took)
     (subst (λ (m : ℕ). Visits v s (record { place = m; «in_record» = r′ }) (shownFrom v r′ m fs)) far rest)
 
-pub visits : (v : Values) (s : List ℕ) (fs : List Stored) → Divides s fs → Each (λ f. f .kind ≡ 0xff → length (f .content) ≡ 0) fs
+pub visits : (v : ValueFunction) (s : List ℕ) (fs : List Stored) → Divides s fs → Each (λ f. f .kind ≡ 0xff → length (f .content) ≡ 0) fs
     → Visits v s start (shownFrom v false 0 fs)
 visits v s fs d n = from v [] fs s false refl (d .whole) n (d .parts)

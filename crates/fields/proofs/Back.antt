@@ -13,7 +13,7 @@ use Rattle.words.specs.Numbers.{bytesLow}
 use Rattle.words.proofs.NumberLaws.{number-bytes, bytes-sized}
 use Rattle.fields.specs.Stored.{Stored, bytesOf, roomOf, fillOf}
 use Rattle.fields.specs.Step.{lenAt, kindAt, dataAt, endWithData, misplaced}
-use Rattle.fields.specs.Walk.{Values, walkBy}
+use Rattle.fields.specs.Walk.{ValueFunction, walkBy}
 use Rattle.fields.specs.Append.{badFill, noRoom, appendOf, bufferAfter}
 use Rattle.fields.specs.declared.Cursor.{Cursor}
 use Rattle.fields.specs.declared.Field.{Field}
@@ -59,14 +59,14 @@ module _ (a : List ℕ) (f : Stored) (z : List ℕ) where
       (drop-at (f .content) (f .fill ++ z) (length (f .content)) refl)
 
 -- a stored field as the walk by the values v shows it, at place p, in a record or not
-abbrev pub shown : Values → Bool → ℕ → Stored → Field
+abbrev pub shown : ValueFunction → Bool → ℕ → Stored → Field
 shown v r p f = record { kind = f .kind; place = p; len = length (f .content); value = v r (f .kind) (f .content) }
 
 -- the cursor after it
 abbrev pub past : Bool → ℕ → Stored → Cursor
 past r p f = record { place = p + roomOf (length (f .content)); «in_record» = r || eqb (f .kind) 0xff }
 
-pub walk-stored : (v : Values) (a : List ℕ) (f : Stored) (z : List ℕ) (r : Bool) → length a % 16 ≡ 0 → length (f .content) < 2 ^ 32
+pub walk-stored : (v : ValueFunction) (a : List ℕ) (f : Stored) (z : List ℕ) (r : Bool) → length a % 16 ≡ 0 → length (f .content) < 2 ^ 32
     → length (f .fill) ≡ fillOf (length (f .content)) → endWithData (f .kind) (length (f .content)) ≡ false
     → walkBy v (a ++ (bytesOf f ++ z)) (record { place = length a; «in_record» = r }) ≡ Took (shown v r (length a) f) (past r (length a) f)
 walk-stored v a f z r al h g e =
@@ -115,7 +115,7 @@ accepted b p f q h =
     }
 
 -- What append wrote is what the walk hands back: type, length and value, and the next place.
-pub walks-back : (v : Values) (b : List ℕ) (p : ℕ) (f : Stored) (q : ℕ) (r : Bool) → appendOf b p f ≡ Next q
+pub walks-back : (v : ValueFunction) (b : List ℕ) (p : ℕ) (f : Stored) (q : ℕ) (r : Bool) → appendOf b p f ≡ Next q
     → walkBy v (bufferAfter (Next q) b p f) (record { place = p; «in_record» = r })
     ≡ Took (shown v r p f) (record { place = q; «in_record» = r || eqb (f .kind) 0xff })
 walks-back v b p f q r h =

@@ -8,7 +8,7 @@ use lib.ListN.{length, getD}
 use Rattle.fields.specs.Stored.{Stored, roomOf}
 use Rattle.fields.specs.Value.{valueNumbers}
 use Rattle.fields.specs.Step.{lenAt, kindAt, after, misplaced, broken, endWithData, stepOf}
-use Rattle.fields.specs.Walk.{Values, withValue, walkBy, walkOf, walkNumber, walkValues}
+use Rattle.fields.specs.Walk.{ValueFunction, withValue, walkBy, walkOf, walkNumber, walkValues}
 use Rattle.fields.specs.Append.{appendOf, appendNumber, appendValues, badFill, noRoom, bufferAfter}
 use Rattle.fields.specs.declared.Cursor.{Cursor}
 use Rattle.fields.specs.declared.Stepped.the-variants as stepped
@@ -20,7 +20,7 @@ use Rattle.fields.specs.declared.store.Appended.{Appended}
 use Rattle.fields.specs.declared.store.Appended.the-variants as appended
 
 -- walk: 11, then 14, whatever the values
-pub walk-numbers : (v : Values) (s : List ℕ) (c : Cursor)
+pub walk-numbers : (v : ValueFunction) (s : List ℕ) (c : Cursor)
     → walkNumber (walkBy v s c) ≡ cond (misplaced s (c .place)) 11 (cond (eqb (c .place) (length s)) 0 (cond (broken s (c .place)) 14 0))
 unfolding walkBy stepOf
 walk-numbers v s c = by (misplaced s (c .place)) (eqb (c .place) (length s)) (broken s (c .place))

@@ -4,7 +4,7 @@ use mathlib.Core.Path.{_≡_, refl, sym, ap, _∙_}
 use mathlib.Core.List.{List}
 use native.Mathlib.Omega.{arith}
 use Rattle.fields.specs.Step.{stepOf}
-use Rattle.fields.specs.Walk.{Values, fieldBy, withValue, walkBy}
+use Rattle.fields.specs.Walk.{ValueFunction, fieldBy, withValue, walkBy}
 use Rattle.fields.specs.declared.Cursor.{Cursor}
 use Rattle.fields.specs.declared.Field.{Field}
 use Rattle.fields.specs.declared.Stepped.{Stepped}
@@ -18,7 +18,7 @@ withoutValue Finished = Stepped.Finished
 withoutValue Misplaced = Stepped.Misplaced
 withoutValue Broken = Stepped.Broken
 
-module _ (v : Values) (s : List ℕ) (c : Cursor) where
+module _ (v : ValueFunction) (s : List ℕ) (c : Cursor) where
   -- with the step's answer
   pub valued : (r : Stepped) → stepOf s c ≡ r → walkBy v s c ≡ withValue v s c r
   unfolding walkBy
@@ -49,5 +49,5 @@ module _ (v : Values) (s : List ℕ) (c : Cursor) where
       by Stepped.Broken h = absurd (let z : _≡_ {A = ℕ} 0 1 = cc in omega arith)
 
 -- two walks that differ in the values alone take the same, where the other does, and refuse the same
-pub any-values : (v w : Values) (s : List ℕ) (c : Cursor) → withoutValue (walkBy v s c) ≡ withoutValue (walkBy w s c)
+pub any-values : (v w : ValueFunction) (s : List ℕ) (c : Cursor) → withoutValue (walkBy v s c) ≡ withoutValue (walkBy w s c)
 any-values v w s c = step-of v s c ∙ sym (step-of w s c)

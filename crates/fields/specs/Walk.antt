@@ -14,22 +14,22 @@ use Rattle.fields.specs.declared.Walked.{Walked}
 use Rattle.fields.specs.declared.Walked.the-variants.{Took, Finished, Misplaced, Broken}
 
 -- a value, by whether it is in a record (else in the header), the type and the data
-abbrev pub Values : Type 0
-Values = Bool → ℕ → List ℕ → Value
+abbrev pub ValueFunction : Type 0
+ValueFunction = Bool → ℕ → List ℕ → Value
 
 -- the field at a cursor, of type k and with n bytes of data: type, place and length, with the value inside
-abbrev pub fieldBy : Values → List ℕ → Cursor → ℕ → ℕ → Field
+abbrev pub fieldBy : ValueFunction → List ℕ → Cursor → ℕ → ℕ → Field
 fieldBy v s c k n =
     record { kind = k; place = c .place; len = n; value = v (c .«in_record») k (take n (drop (c .place + 5) s)) }
 
-abbrev pub withValue : Values → List ℕ → Cursor → Stepped → Walked
+abbrev pub withValue : ValueFunction → List ℕ → Cursor → Stepped → Walked
 withValue v s c (Stepped.Took k n d) = Took (fieldBy v s c k n) d
 withValue v s c Stepped.Finished = Finished
 withValue v s c Stepped.Misplaced = Misplaced
 withValue v s c Stepped.Broken = Broken
 
 -- by any values
-unfoldable pub walkBy : Values → List ℕ → Cursor → Walked
+unfoldable pub walkBy : ValueFunction → List ℕ → Cursor → Walked
 walkBy v s c = withValue v s c (stepOf s c)
 
 -- by those of document 01
