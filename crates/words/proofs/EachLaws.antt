@@ -1,12 +1,14 @@
 -- A test and what it says, for one element and for each of a list: by cases on the answers.
-use Prim.Native.Nat.{ℕ, zero, suc, _<_, _≤_}
+use Prim.Native.Nat.{ℕ, zero, suc, _+_, _<_, _≤_}
 use mathlib.Core.Path.{_≡_, refl}
 use mathlib.Core.Logic.{_↔_}
 use mathlib.Core.Bool.{Bool, true, false, cond, _&&_, false≢true}
 use mathlib.Core.List.{List, [], _∷_, _++_}
 use native.Mathlib.Omega.{arith}
+use native.Mathlib.Numerals.{add-one}
 use lib.Dec.{eqb, leb}
-use lib.ListN.{length, getD}
+use lib.ListN.{length, getD, drop, drop-of-length-le}
+use lib.Seq.{drop-cons}
 use borrow.Author.Tests.{eqb-true, eq-eqb, eqb-false, leb-true, le-leb}
 use Rattle.words.specs.Each.{Each, allIn}
 
@@ -59,3 +61,14 @@ each-at P (a ∷ l) d h (suc k) g = each-at P l d (h .1) k (omega arith)
 pub each-from : {A : Type 0} (P : A → Type 0) (l : List A) (d : A) → ((k : ℕ) → k < length l → P (getD l k d)) → Each P l
 each-from P [] d h = tt
 each-from P (a ∷ l) d h = (h 0 (omega arith), each-from P l d (λ k g. h (suc k) (omega arith)))
+
+-- a test of each element: what is left decides, once elements that pass are behind
+module _ {A : Type 0} (t : A → Bool) (l : List A) (d : A) (i : ℕ) where
+  pub all-next : i < length l → t (getD l i d) ≡ true → allIn t (drop i l) ≡ allIn t (drop (i + 1) l)
+  all-next h e = rw (add-one, drop-cons l i d h, e)
+
+  pub all-stop : i < length l → t (getD l i d) ≡ false → allIn t (drop i l) ≡ false
+  all-stop h e = rw (drop-cons l i d h, e)
+
+  pub all-end : length l ≤ i → allIn t (drop i l) ≡ true
+  all-end h = rw (drop-of-length-le l {i = i} h)

@@ -7,5 +7,6 @@ pub mod Either
 pub mod Every
 pub mod Places
 pub mod HexLaws
+pub mod HexNumbers
 pub mod Tables
 pub mod EachLaws

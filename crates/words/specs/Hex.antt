@@ -1,9 +1,11 @@
--- Hex digits: 0 to 9, and a to f in either case.
-use mathlib.Core.Bool.{cond}
-use mathlib.Core.List.{List, [], _∷_}
-use Prim.Native.Nat.{ℕ, suc, _%_}
+-- Hex digits: 0 to 9, and a to f in either case; and numbers in such digits.
+use mathlib.Core.Path.{_≡_}
+use mathlib.Core.Bool.{Bool, cond}
+use mathlib.Core.List.{List, [], _∷_, map}
+use Prim.Native.Nat.{ℕ, zero, suc, _+_, _*_, _/_, _%_, _^_, _<_}
 use lib.Dec.{ltb, eqb}
-use lib.ListN.{getD}
+use lib.ListN.{length, getD}
+use Rattle.words.specs.Each.{allIn}
 
 -- 0 to 9, and what stands for the values 10 to 15
 abbrev digitsWith : List ℕ → List ℕ
@@ -27,3 +29,23 @@ hexValue b = cond (ltb (indexIn b lowerDigits) 16) (indexIn b lowerDigits) (inde
 -- the digit of a value, in lower case; a greater number counts modulo 16
 unfoldable pub hexDigit : ℕ → ℕ
 hexDigit v = getD lowerDigits (v % 16) 0
+
+-- ---- numbers in digits, the highest first
+-- every byte is a digit
+unfoldable pub allDigits : List ℕ → Bool
+allDigits s = allIn (λ b. ltb (hexValue b) 16) s
+
+-- what digits come to: each counts 16 to the power of the number of digits behind it
+unfoldable pub hexNumber : List ℕ → ℕ
+hexNumber [] = 0
+hexNumber (d ∷ s) = hexValue d * 16 ^ length s + hexNumber s
+
+-- the values of the n lowest digits of x, the highest first
+unfoldable pub digitsOf : ℕ → ℕ → List ℕ
+digitsOf zero x = []
+digitsOf (suc n) x = x / 16 ^ n % 16 ∷ digitsOf n x
+
+-- s is x in digits of either case, the highest first
+pub record Spells (s : List ℕ) (x : ℕ) : Type 0 where
+  pub fits : x < 16 ^ length s
+  pub digits : map hexValue s ≡ digitsOf (length s) x

@@ -1,6 +1,7 @@
-// Hex digits as bytes.
+// Hex digits as bytes, and numbers in them.
 ghost use mathlib.Core.Path.{_≡_};
-ghost use Rattle.words.specs.Hex.{hexValue, hexDigit};
+ghost use Prim.Native.Nat.{_+_, _*_, _%_, _^_};
+ghost use Rattle.words.specs.Hex.{hexValue, hexDigit, allDigits, hexNumber};
 
 // The value of a digit of either case; 16 of a byte that is no digit.
 pub fn value(b: u8) -> u8
@@ -36,4 +37,38 @@ pub fn digit(v: u8) -> u8
         return 48 + d;
     }
     87 + d
+}
+
+// Whether every byte is a digit.
+pub fn digits(s: &[u8]) -> bool
+    ensures { λ r. ⌜ r ≡ allDigits (now (s .entry)) ⌝ }
+{
+    let mut i: usize = 0;
+    while i < s.len() {
+        if value(s[i]) > 15 {
+            return false;
+        }
+        i += 1;
+    }
+    true
+}
+
+// A number with one digit more.
+fn grown(n: u32, v: u8) -> u32
+    ensures { λ r. ⌜ r ≡ (16 * n + v) % 2 ^ 32 ⌝ }
+{
+    ((16 * (n as u64) + (v as u64)) % 4294967296) as u32
+}
+
+// What digits come to, the highest first: modulo 2^32, so that eight of them are told whole.
+pub fn number(s: &[u8]) -> u32
+    ensures { λ r. ⌜ r ≡ hexNumber (now (s .entry)) % 2 ^ 32 ⌝ }
+{
+    let mut n: u32 = 0;
+    let mut i: usize = 0;
+    while i < s.len() {
+        n = grown(n, value(s[i]));
+        i += 1;
+    }
+    n
 }

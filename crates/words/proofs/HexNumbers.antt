@@ -1,0 +1,111 @@
+-- Numbers in hex digits: with one digit more, and that a list of digits comes to a number exactly where it spells it; by recursion on the list.
+use mathlib.Core.Path.{_≡_, refl, sym, ap, ap₂, _∙_}
+use mathlib.Core.Logic.{_↔_}
+use mathlib.Core.Bool.{Bool, true}
+use mathlib.Core.List.{List, [], _∷_, _++_, map}
+use Prim.Native.Nat.{ℕ, zero, suc, _+_, _-_, _*_, _/_, _%_, _^_, _<_, _≤_}
+use native.Mathlib.Omega.{arith}
+use native.Mathlib.Nat.{mul-assoc, mul-comm, add-comm, mod-eq-of-lt, mod-lt, pow-suc, one-le-pow, add-mul-div-right, mul-add-mod-self-right}
+use native.Mathlib.Numerals.{add-one}
+use lib.Arith.{digits-lt, digits-div, mod-mul}
+use lib.Dec.{ltb}
+use lib.ListN.{length, getD, take, length-append}
+use lib.Pow.{pow-add}
+use lib.Seq.{take-suc}
+use borrow.Author.Tests.{ltb-true, lt-ltb}
+use Rattle.words.specs.Hex.{hexValue, allDigits, hexNumber, digitsOf, Spells}
+use Rattle.words.proofs.EachLaws.{both, and}
+
+-- ---- one digit more
+shuffle : (v p : ℕ) → v * (p * 16) ≡ 16 * (v * p)
+shuffle v p = sym (mul-assoc v p 16) ∙ mul-comm (v * p) 16
+
+longer : (s : List ℕ) (d : ℕ) → 16 ^ length (s ++ (d ∷ [])) ≡ 16 ^ length s * 16
+longer s d =
+    let l : length (s ++ (d ∷ [])) ≡ suc (length s) = rw length-append (omega arith) in
+    ap (λ (n : ℕ). 16 ^ n) l ∙ pow-suc 16 (length s)
+
+one-more : (s : List ℕ) (d : ℕ) → hexNumber (s ++ (d ∷ [])) ≡ 16 * hexNumber s + hexValue d
+unfolding hexNumber
+one-more [] d = omega arith
+one-more (x ∷ s) d =
+    let ih : hexNumber (s ++ (d ∷ [])) ≡ 16 * hexNumber s + hexValue d = one-more s d in
+    let e : hexValue x * 16 ^ length (s ++ (d ∷ [])) ≡ 16 * (hexValue x * 16 ^ length s) =
+        ap (λ (p : ℕ). hexValue x * p) (longer s d) ∙ shuffle (hexValue x) (16 ^ length s) in
+    omega (arith, ih, e)
+
+-- a turn of the loop, modulo 2^32
+pub number-next : (s : List ℕ) (i n v r : ℕ) → i < length s → n ≡ hexNumber (take i s) % 2 ^ 32 → v ≡ hexValue (getD s i 0) → r ≡ (16 * n + v) % 2 ^ 32
+    → r ≡ hexNumber (take (i + 1) s) % 2 ^ 32
+number-next s i n v r h e f g =
+    let l : take (i + 1) s ≡ take i s ++ (getD s i 0 ∷ []) = rw add-one (take-suc s i 0 h) in
+    let m : hexNumber (take (i + 1) s) ≡ 16 * hexNumber (take i s) + hexValue (getD s i 0) = ap hexNumber l ∙ one-more (take i s) (getD s i 0) in
+    omega (arith, m, e, f, g)
+
+-- ---- what is spelled
+pos : (n : ℕ) → 0 < 16 ^ n
+pos n = one-le-pow n 16 (omega arith)
+
+sixteen-more : (n : ℕ) → 16 ^ suc n ≡ 16 * 16 ^ n
+sixteen-more n = pow-suc 16 n ∙ mul-comm (16 ^ n) 16
+
+pub number-fits : (s : List ℕ) → allDigits s ≡ true → hexNumber s < 16 ^ length s
+unfolding allDigits hexNumber
+number-fits [] h = omega arith
+number-fits (d ∷ s) h =
+    let x = both (ltb (hexValue d) 16) (allDigits s) h in
+    rw sixteen-more (digits-lt {q = hexValue d} {m = 16} (ltb-true (hexValue d) 16 (x .0)) (number-fits s (x .1)))
+
+-- the n lowest digits do not go by what is higher
+low-digits : (n m v y : ℕ) → n ≤ m → digitsOf n (v * 16 ^ m + y) ≡ digitsOf n y
+unfolding digitsOf
+low-digits zero m v y h = refl
+low-digits (suc n) m v y h = ap₂ _∷_ digit (low-digits n m v y (omega arith))
+  where
+    up : ℕ
+    up = v * 16 ^ (m - suc n)
+
+    split : v * 16 ^ m ≡ up * 16 * 16 ^ n
+    split =
+        let e : m ≡ (m - suc n) + suc n = omega arith in
+        ap (λ (k : ℕ). v * 16 ^ k) e ∙ ap (λ (p : ℕ). v * p) (pow-add 16 (m - suc n) (suc n)) ∙ sym (mul-assoc v (16 ^ (m - suc n)) (16 ^ suc n))
+        ∙ ap (λ (p : ℕ). up * p) (sixteen-more n) ∙ sym (mul-assoc up 16 (16 ^ n))
+
+    digit : (v * 16 ^ m + y) / 16 ^ n % 16 ≡ y / 16 ^ n % 16
+    digit =
+        ap (λ (p : ℕ). (p + y) / 16 ^ n % 16) split ∙ ap (λ (p : ℕ). p / 16 ^ n % 16) (add-comm (up * 16 * 16 ^ n) y)
+        ∙ ap (λ (q : ℕ). q % 16) (add-mul-div-right y (up * 16) (pos n) ∙ add-comm (y / 16 ^ n) (up * 16)) ∙ mul-add-mod-self-right up 16 (y / 16 ^ n)
+
+spelled : (s : List ℕ) → allDigits s ≡ true → map hexValue s ≡ digitsOf (length s) (hexNumber s)
+unfolding allDigits hexNumber digitsOf
+spelled [] h = refl
+spelled (d ∷ s) h =
+    let x = both (ltb (hexValue d) 16) (allDigits s) h in
+    let v : hexValue d < 16 = ltb-true (hexValue d) 16 (x .0) in
+    let e : hexNumber (d ∷ s) / 16 ^ length s % 16 ≡ hexValue d =
+        ap (λ (q : ℕ). q % 16) (digits-div (hexValue d) (number-fits s (x .1))) ∙ mod-eq-of-lt v in
+    ap₂ _∷_ (sym e) (spelled s (x .1) ∙ sym (low-digits (length s) (length s) (hexValue d) (hexNumber s) (omega arith)))
+
+-- a list whose digits are those of x comes to x, as far as it goes
+come-to : (s : List ℕ) (x : ℕ) → map hexValue s ≡ digitsOf (length s) x → (allDigits s ≡ true) × (hexNumber s ≡ x % 16 ^ length s)
+unfolding allDigits hexNumber digitsOf
+come-to [] x h = (refl, omega arith)
+come-to (d ∷ s) x h =
+    let v : hexValue d ≡ x / 16 ^ length s % 16 = cc in
+    let t : map hexValue s ≡ digitsOf (length s) x = cc in
+    let r = come-to s x t in
+    let l : hexValue d < 16 = omega (arith, v) in
+    (and (ltb (hexValue d) 16) (allDigits s) (lt-ltb (hexValue d) 16 l) (r .0),
+      ap₂ (λ (a b : ℕ). a * 16 ^ length s + b) v (r .1) ∙ sym (rw sixteen-more (mod-mul x {m = 16} (omega arith) (pos (length s)))))
+
+pub spells-exactly : (s : List ℕ) (x : ℕ) → ((allDigits s ≡ true) × (hexNumber s ≡ x)) ↔ Spells s x
+spells-exactly s x = (forth, back)
+  where
+    forth : (allDigits s ≡ true) × (hexNumber s ≡ x) → Spells s x
+    forth h = record {
+      fits = rw (← h .1) (number-fits s (h .0));
+      digits = rw (← h .1) (spelled s (h .0));
+    }
+
+    back : Spells s x → (allDigits s ≡ true) × (hexNumber s ≡ x)
+    back p = let r = come-to s x (p .digits) in (r .0, r .1 ∙ mod-eq-of-lt (p .fits))
