@@ -5,5 +5,6 @@ mod Parts
 mod Appends
 pub mod Back
 pub mod Numbers
+pub mod Stamps
 pub mod Texts
 pub mod Cases

@@ -2,13 +2,14 @@
 -- of `text`. BadText is of no other field, and its number less than the length: by the list of values.
 use Prim.Native.Nat.{ℕ, _<_}
 use mathlib.Core.Path.{_≡_, refl, sym, ap, _∙_}
-use mathlib.Core.Logic.{_↔_}
+use mathlib.Core.Logic.{_↔_, _⊎_, inl, inr}
 use mathlib.Core.Bool.{Bool, true, false, cond}
 use mathlib.Core.List.{List}
 use native.Mathlib.Omega.{arith}
 use lib.Dec.{eqb}
 use lib.ListN.{length}
 use borrow.Author.Tests.{ne-eqb}
+use Rattle.words.specs.Hex.{allDigits}
 use Rattle.text.specs.Grammar.{IsText}
 use Rattle.text.specs.GoesWrong.{GoesWrongAt}
 use Rattle.text.specs.Decision.{goesWrongOf}
@@ -20,12 +21,22 @@ use Rattle.fields.specs.declared.value.Shape.the-variants as Shape
 use Rattle.fields.specs.declared.value.Value.{Value}
 use Rattle.fields.specs.declared.value.Value.the-variants as Value
 use Rattle.fields.specs.Value.{headerShape, recordShape, textual, shapedOf, valueOf}
+use Rattle.fields.specs.Stamp.{OldStamp}
+use Rattle.fields.proofs.Stamps.{as-stamp, as-listed}
 
--- END is of no Text type
+-- END is of no Text type, and an old save stamp neither
 not-end : (r : Bool) (k : ℕ) → cond r (recordShape k) (headerShape k) ≡ Shape.Text → k ≡ 0xff → ⊥
 unfolding recordShape headerShape
 not-end true k h e = let z : _≡_ {A = ℕ} 0 1 = cc in omega arith
 not-end false k h e = let z : _≡_ {A = ℕ} 0 1 = cc in omega arith
+
+not-stamp : (r : Bool) (k : ℕ) (d : List ℕ) → cond r (recordShape k) (headerShape k) ≡ Shape.Text → OldStamp r k d → ⊥
+unfolding headerShape
+not-stamp r k d h o = by (o .kind)
+  where
+    by : (k ≡ 0x04) ⊎ (k ≡ 0x13) → ⊥
+    by (inl e) = let t : Shape.Time ≡ Shape.Text = rw (e, o .header) at h in let z : _≡_ {A = ℕ} 0 1 = cc in omega arith
+    by (inr e) = let t : Shape.Time ≡ Shape.Text = rw (e, o .header) at h in let z : _≡_ {A = ℕ} 0 1 = cc in omega arith
 
 by-text : (w : Wrong) → textual w ≡ Value.Text → w ≡ Nowhere
 by-text Nowhere h = refl
@@ -37,9 +48,9 @@ by-number (At m) n h = cc
 
 module _ (r : Bool) (k : ℕ) (d : List ℕ) (shape : cond r (recordShape k) (headerShape k) ≡ Shape.Text) (some : length d ≡ 0 → ⊥) where
   decided : valueOf r k d ≡ textual (goesWrongOf d)
-  unfolding valueOf
   decided =
-      past (eqb k 0xff) (eqb (length d) 0) (shapedOf (cond r (recordShape k) (headerShape k)) d) (ne-eqb k 0xff (not-end r k shape)) (ne-eqb (length d) 0 some)
+      as-listed r k d (not-stamp r k d shape)
+      ∙ past (eqb k 0xff) (eqb (length d) 0) (shapedOf (cond r (recordShape k) (headerShape k)) d) (ne-eqb k 0xff (not-end r k shape)) (ne-eqb (length d) 0 some)
       ∙ ap (λ (s : Shape). shapedOf s d) shape
     where
       past : (e z : Bool) (v : Value) → e ≡ false → z ≡ false → cond e Value.End (cond z Value.Empty v) ≡ v
@@ -85,9 +96,11 @@ pub record BadIn (r : Bool) (k : ℕ) (d : List ℕ) (n : ℕ) : Type 0 where
   pub less : n < length d
 
 pub bad-in : (r : Bool) (k : ℕ) (d : List ℕ) (n : ℕ) → valueOf r k d ≡ Value.BadText n → BadIn r k d n
-unfolding valueOf
-bad-in r k d n h = by (eqb k 0xff) (eqb (length d) 0) h
+bad-in r k d n h = by (eqb k 0xff) (eqb (length d) 0) (sym (as-listed r k d other) ∙ h)
   where
+    other : OldStamp r k d → ⊥
+    other o = sized-none d n (allDigits d) _ (λ e. let z : _≡_ {A = ℕ} 0 1 = cc in omega arith) (sym (as-stamp r k d o) ∙ h)
+
     by : (e z : Bool) → cond e Value.End (cond z Value.Empty (shapedOf (cond r (recordShape k) (headerShape k)) d)) ≡ Value.BadText n → BadIn r k d n
     by true z h = absurd (let z : _≡_ {A = ℕ} 0 1 = cc in omega arith)
     by false true h = absurd (let z : _≡_ {A = ℕ} 0 1 = cc in omega arith)

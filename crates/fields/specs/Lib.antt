@@ -1,5 +1,6 @@
 pub mod Stored
 pub mod Value
+pub mod Stamp
 pub mod Step
 pub mod Walk
 pub mod Append

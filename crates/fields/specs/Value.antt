@@ -1,9 +1,10 @@
--- What the data of a field stands for (document 01, the list of values; document 02, Q-5).
+-- What the data of a field stands for (document 01, the list of values; document 02, Q-5 and Q-2).
 use Prim.Native.Nat.{ℕ}
-use mathlib.Core.Bool.{Bool, cond, not}
+use mathlib.Core.Bool.{Bool, cond, not, _&&_}
 use mathlib.Core.List.{List, [], _∷_, _++_}
 use lib.Dec.{eqb}
 use lib.ListN.{length, getD, take, drop}
+use Rattle.words.specs.Hex.{allDigits, hexNumber}
 use Rattle.words.specs.Members.{among, to}
 use Rattle.words.specs.Numbers.{numberLow}
 use Rattle.text.specs.Decision.{goesWrongOf}
@@ -68,12 +69,24 @@ shapedOf Shape.Flag d = sized 1 d (Value.Flag (not (eqb (getD d 0 0) 0)))
 shapedOf Shape.Text d = textual (goesWrongOf d)
 shapedOf Shape.Opaque d = Value.Opaque
 
--- r: in a record, not in the header; k: the type; d: the data
-unfoldable pub valueOf : Bool → ℕ → List ℕ → Value
-valueOf r k d =
+-- the value by document 01's list; r: in a record, not in the header; k: the type; d: the data
+abbrev pub listedOf : Bool → ℕ → List ℕ → Value
+listedOf r k d =
     cond (eqb k 0xff) Value.End
     (cond (eqb (length d) 0) Value.Empty
     (shapedOf (cond r (recordShape k) (headerShape k)) d))
+
+-- n bytes are an old save stamp: eight, in the header, of type 04 or 13
+abbrev pub oldStamp : Bool → ℕ → ℕ → Bool
+oldStamp r k n = not r && (eqb n 8 && among k (0x04 ∷ 0x13 ∷ []))
+
+-- eight hex digits of either case, the highest first; eight bytes that are not all digits are Misshapen
+abbrev pub stampOf : List ℕ → Value
+stampOf d = cond (allDigits d) (Value.Time (hexNumber d)) Value.Misshapen
+
+-- the list, amended by Q-2
+unfoldable pub valueOf : Bool → ℕ → List ℕ → Value
+valueOf r k d = cond (oldStamp r k (length d)) (stampOf d) (listedOf r k d)
 
 -- a value as numbers: its kind, by its place in this list, and what it holds
 abbrev pub valueNumbers : Value → List ℕ

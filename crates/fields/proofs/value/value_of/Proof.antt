@@ -1,45 +1,31 @@
--- `fields::value::value_of` meets its contract: each return is the case that the answers before it pick.
+-- `fields::value::value_of` meets its contract: each return is the case of the definition that its test picks.
+use mathlib.Core.Path.{_≡_, sym, _∙_}
+use mathlib.Core.Bool.{true, false}
 use lib.ListN.{length}
-use lib.Dec.{eqb}
-use mathlib.Core.Bool.{false}
-use mathlib.Core.Path.{_≡_}
-use Rattle.text.proofs.Tests.{tests}
-use Rattle.fields.specs.Value.{valueOf}
+use Rattle.fields.specs.Value.{oldStamp, valueOf}
+use Rattle.fields.proofs.Stamps.{old-exactly}
 use borrow.Author.Needs.{needs}
 use Rattle.fields.proofs.value.value_of.Statement.{statement}
 use Rattle.fields.proofs.value.value_of.Tie as tie
 
+stamp-requires : tie.Need-stamp-requires
+stamp-requires c κs =
+    let a = c .before .before .before .args in
+    old-exactly (a .in-record) (a .kind) (a .d .now) .0 (sym (c .before .old-stamp .ensures) ∙ c .if1 .taken) .eight
+
 returns : tie.Need-returns
 unfolding valueOf
-returns c = search tests
+returns c =
+    let a = c .before .before .before .before .args in
+    let old : oldStamp (a .in-record) (a .kind) (length (a .d .now)) ≡ true = sym (c .before .before .old-stamp .ensures) ∙ c .before .if1 .taken in
+    rw old (c .stamp .ensures)
 
 returns-2 : tie.Need-returns-2
 unfolding valueOf
-returns-2 c = search tests
-
-returns-3 : tie.Need-returns-3
-unfolding valueOf
-returns-3 c =
-    let no-end : eqb (c .before .before .before .before .before .before .args .kind) 0xff ≡ false = search tests in
-    let some : eqb (length (c .before .before .before .before .before .before .args .d .now)) 0 ≡ false = search tests in
-    simp (no-end, some, c .before .before .if3 .taken, ← c .before .record-shape .ensures) (c .shaped .ensures)
-
-returns-4 : tie.Need-returns-4
-unfolding valueOf
-returns-4 c =
-    let no-end : eqb (c .before .before .before .before .before .before .args .kind) 0xff ≡ false = search tests in
-    let some : eqb (length (c .before .before .before .before .before .before .args .d .now)) 0 ≡ false = search tests in
-    simp (no-end, some, c .before .before .if3 .left, ← c .before .header-shape .ensures) (c .shaped2 .ensures)
+returns-2 c =
+    let a = c .before .before .before .before .args in
+    let other : oldStamp (a .in-record) (a .kind) (length (a .d .now)) ≡ false = sym (c .before .before .old-stamp .ensures) ∙ c .before .if1 .left in
+    rw other (c .listed .ensures)
 
 pub value-of-spec : {M : Type 1} → statement M
-value-of-spec =
-    tie.close
-    (tie.spec
-    returns
-    returns-2
-    (λ c κs. search needs)
-    (λ c κs. search needs)
-    returns-3
-    (λ c κs. search needs)
-    (λ c κs. search needs)
-    returns-4)
+value-of-spec = tie.close (tie.spec (λ c κs. search needs) stamp-requires returns (λ c κs. search needs) returns-2)
