@@ -20,12 +20,13 @@ use Rattle.fields.specs.Stamp.{OldStamp}
 pub old-exactly : (r : Bool) (k : ℕ) (d : List ℕ) → (oldStamp r k (length d) ≡ true) ↔ OldStamp r k d
 old-exactly r k d = (forth r (eqb (length d) 8) (eqb k 0x04) (eqb k 0x13) refl refl refl refl, back)
   where
-    forth : (q n a b : Bool) → r ≡ q → eqb (length d) 8 ≡ n → eqb k 0x04 ≡ a → eqb k 0x13 ≡ b → (not q && (n && (a || (b || false)))) ≡ true → OldStamp r k d
+    forth : (q n a b : Bool) → r ≡ q → eqb (length d) 8 ≡ n → eqb k 0x04 ≡ a → eqb k 0x13 ≡ b → ((not q && (a || (b || false))) && n) ≡ true → OldStamp r k d
     forth true n a b f e g i h = absurd (false≢true h)
-    forth false false a b f e g i h = absurd (false≢true h)
+    forth false n false false f e g i h = absurd (false≢true h)
+    forth false false true b f e g i h = absurd (false≢true h)
+    forth false false false true f e g i h = absurd (false≢true h)
     forth false true true b f e g i h = record { header = f; kind = inl (eqb-true k 0x04 g); eight = eqb-true (length d) 8 e }
     forth false true false true f e g i h = record { header = f; kind = inr (eqb-true k 0x13 i); eight = eqb-true (length d) 8 e }
-    forth false true false false f e g i h = absurd (false≢true h)
 
     back : OldStamp r k d → oldStamp r k (length d) ≡ true
     back o = by (o .kind)

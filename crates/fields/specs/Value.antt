@@ -76,9 +76,13 @@ listedOf r k d =
     (cond (eqb (length d) 0) Value.Empty
     (shapedOf (cond r (recordShape k) (headerShape k)) d))
 
--- n bytes are an old save stamp: eight, in the header, of type 04 or 13
+-- the header's times
+abbrev pub headerTime : Bool → ℕ → Bool
+headerTime r k = not r && among k (0x04 ∷ 0x13 ∷ [])
+
+-- one of n bytes is an old save stamp
 abbrev pub oldStamp : Bool → ℕ → ℕ → Bool
-oldStamp r k n = not r && (eqb n 8 && among k (0x04 ∷ 0x13 ∷ []))
+oldStamp r k n = headerTime r k && eqb n 8
 
 -- eight hex digits of either case, the highest first; eight bytes that are not all digits are Misshapen
 abbrev pub stampOf : List ℕ → Value

@@ -1,5 +1,6 @@
 // The fields of a V3 body: the walk from field to field, and append.
 pub mod answers;
+mod stamp;
 pub mod store;
 pub mod value;
 

@@ -2,7 +2,7 @@
 ghost use mathlib.Core.Path.{_≡_};
 ghost use Prim.Native.Nat.{_<_};
 ghost use lib.ListN.{length};
-ghost use Rattle.fields.specs.Value.{headerShape, recordShape, shapedOf, listedOf, oldStamp, stampOf, valueOf};
+ghost use Rattle.fields.specs.Value.{headerShape, recordShape, shapedOf, listedOf, stampOf, valueOf};
 
 // How the data of a field of some type is to be read: Word and Half are numbers of 4 and 2 bytes.
 pub enum Shape {
@@ -198,26 +198,7 @@ fn listed(in_record: bool, kind: u8, d: &[u8]) -> Value
     shaped(header_shape(kind), d)
 }
 
-// A save time of the header as programs stored it before Password Safe 3.09.
-fn old_stamp(in_record: bool, kind: u8, n: usize) -> bool
-    ensures { λ r. ⌜ r ≡ oldStamp «in_record» kind n ⌝ }
-{
-    if in_record {
-        return false;
-    }
-    if n != 8 {
-        return false;
-    }
-    if kind == 0x04 {
-        return true;
-    }
-    if kind == 0x13 {
-        return true;
-    }
-    false
-}
-
-// Its value: hex digits, the highest first.
+// The value of an old save stamp: hex digits, the highest first.
 fn stamp(d: &[u8]) -> Value
     requires { ⌜ length (now d) ≡ 8 ⌝ }
     ensures { λ r. ⌜ r ≡ stampOf (now (d .entry)) ⌝ }
@@ -231,7 +212,7 @@ fn stamp(d: &[u8]) -> Value
 pub fn value_of(in_record: bool, kind: u8, d: &[u8]) -> Value
     ensures { λ r. ⌜ r ≡ valueOf «in_record» kind (now (d .entry)) ⌝ }
 {
-    if old_stamp(in_record, kind, d.len()) {
+    if crate::stamp::old_stamp(in_record, kind, d.len()) {
         return stamp(d);
     }
     listed(in_record, kind, d)
