@@ -4,6 +4,7 @@ use mathlib.Core.Path.{_≡_, refl}
 use mathlib.Core.Bool.{Bool, true, false}
 use mathlib.Core.List.{List, [], _∷_, _++_, map}
 use lib.ListN.{length, replicate}
+use Rattle.words.specs.Hex.{hexValue, allDigits, hexNumber}
 use Rattle.words.specs.Members.{to}
 use Rattle.words.specs.Numbers.{numberLow, bytesLow}
 use Rattle.text.specs.Decision.{endsWhole, greatest, goesWrongOf}
@@ -96,6 +97,10 @@ four = 0x31 ∷ 0x32 ∷ 0x33 ∷ 0x34 ∷ []
 abbrev uuid : List ℕ
 uuid = to 0x00 0x0f
 
+-- "48C2f73" and one digit more
+abbrev eight : ℕ → List ℕ
+eight b = 0x34 ∷ 0x38 ∷ 0x43 ∷ 0x32 ∷ 0x66 ∷ 0x37 ∷ 0x33 ∷ b ∷ []
+
 abbrev pub values : List (List Value × List Value)
 values =
     -- four bytes under every type, in the header and in a record
@@ -118,6 +123,20 @@ values =
     ∷ (valueOf false 0x00 (0x0e ∷ 0x03 ∷ []) ∷ valueOf true 0x13 (0x01 ∷ 0x02 ∷ []) ∷ valueOf true 0x17 (0x01 ∷ 0x02 ∷ []) ∷ [], Value.Number 0x030e ∷ Value.Number 0x0201 ∷ Value.Number 0x0201 ∷ [])
     ∷ (valueOf true 0x15 (0x00 ∷ []) ∷ valueOf true 0x15 (0x01 ∷ []) ∷ valueOf true 0x15 (0x80 ∷ []) ∷ [], Value.Flag false ∷ Value.Flag true ∷ Value.Flag true ∷ [])
     ∷ (map (λ k. valueOf true k (0x01 ∷ 0x02 ∷ 0x03 ∷ [])) (0x07 ∷ 0x11 ∷ 0x13 ∷ 0x15 ∷ []), replicate 4 Value.Misshapen)
+    -- Q-2: eight hex digits under every type, in the header and in a record
+    ∷ (
+      map (λ k. valueOf false k (eight 0x39)) (to 0x00 0x14),
+      Value.Misshapen ∷ Value.Misshapen ∷ Value.Text ∷ Value.Text ∷ Value.Time 0x48c2f739 ∷ Value.Text ∷ Value.Text ∷ Value.Text
+          ∷ Value.Text ∷ Value.Text ∷ Value.Text ∷ Value.Text ∷ Value.Opaque ∷ Value.Opaque ∷ Value.Opaque ∷ Value.Text
+          ∷ Value.Text ∷ Value.Text ∷ Value.Opaque ∷ Value.Time 0x48c2f739 ∷ Value.Opaque ∷ [],
+    )
+    ∷ (map (λ k. valueOf true k (eight 0x39)) (0x01 ∷ 0x04 ∷ 0x07 ∷ 0x08 ∷ 0x09 ∷ 0x0a ∷ 0x0c ∷ 0x13 ∷ []), Value.Misshapen ∷ Value.Text ∷ replicate 6 Value.Misshapen)
+    -- the last digit of either case; what is next to a digit in ASCII, and what other readers take: + - space x 00
+    ∷ (map (λ b. valueOf false 0x04 (eight b)) (0x30 ∷ 0x39 ∷ 0x41 ∷ 0x46 ∷ 0x61 ∷ 0x66 ∷ []), map Value.Time (0x48c2f730 ∷ 0x48c2f739 ∷ 0x48c2f73a ∷ 0x48c2f73f ∷ 0x48c2f73a ∷ 0x48c2f73f ∷ []))
+    ∷ (map (λ b. valueOf false 0x13 (eight b)) (0x2f ∷ 0x3a ∷ 0x40 ∷ 0x47 ∷ 0x60 ∷ 0x67 ∷ 0x2b ∷ 0x2d ∷ 0x20 ∷ 0x78 ∷ 0x00 ∷ 0xff ∷ []), replicate 12 Value.Misshapen)
+    -- seven and nine digits; the least and the greatest; a digit that is none at the front
+    ∷ (valueOf false 0x04 (replicate 7 0x30) ∷ valueOf false 0x04 (replicate 9 0x30) ∷ valueOf false 0x04 (0x78 ∷ replicate 7 0x30) ∷ [], replicate 3 Value.Misshapen)
+    ∷ (valueOf false 0x13 (replicate 8 0x30) ∷ valueOf false 0x13 (replicate 8 0x46) ∷ [], Value.Time 0 ∷ Value.Time 0xffffffff ∷ [])
     -- BadText with its number, and the same bytes under a type that is none of a text
     ∷ (valueOf true 0x03 (0x41 ∷ 0x80 ∷ []) ∷ valueOf true 0x03 (0x41 ∷ 0x42 ∷ 0x00 ∷ []) ∷ valueOf false 0x02 (0xef ∷ 0xbb ∷ 0xbf ∷ []) ∷ [], Value.BadText 1 ∷ Value.BadText 2 ∷ Value.BadText 0 ∷ [])
     ∷ (valueOf true 0x1b (0x41 ∷ 0x80 ∷ []) ∷ valueOf true 0x0a (0x41 ∷ 0x80 ∷ []) ∷ [], Value.Opaque ∷ Value.Misshapen ∷ [])
@@ -129,7 +148,7 @@ values =
 pub cases : (map (λ c. c .0) walks ≡ map (λ c. c .1) walks)
     × (map (λ c. c .0) appends ≡ map (λ c. c .1) appends)
     × (map (λ c. c .0) values ≡ map (λ c. c .1) values)
-unfolding numberLow bytesLow endsWhole greatest goesWrongOf headerShape recordShape valueOf stepOf walkBy appendOf
+unfolding hexValue allDigits hexNumber numberLow bytesLow endsWhole greatest goesWrongOf headerShape recordShape valueOf stepOf walkBy appendOf
 cases = (refl, refl, refl)
 
 -- 3 past 4,194,096 also where the buffer goes on: no field ends there

@@ -32,7 +32,7 @@ withValue v s c Stepped.Broken = Broken
 unfoldable pub walkBy : ValueFunction → List ℕ → Cursor → Walked
 walkBy v s c = withValue v s c (stepOf s c)
 
--- by those of document 01
+-- by document 01's, as document 02 amends them
 abbrev pub walkOf : List ℕ → Cursor → Walked
 walkOf = walkBy valueOf
 

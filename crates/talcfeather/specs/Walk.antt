@@ -6,6 +6,7 @@ use mathlib.Core.List.{List}
 use lib.ListN.{length, take, drop}
 use Rattle.words.specs.Numbers.{numberLow}
 use Rattle.fields.specs.Value.{headerShape, recordShape}
+use Rattle.fields.specs.Stamp.{OldStamp}
 use Rattle.fields.specs.Step.{dataAt, stepOf}
 use Rattle.fields.specs.Walk.{walkOf, walkNumber, walkNumbers}
 use Rattle.fields.specs.declared.Cursor.{Cursor}
@@ -22,19 +23,29 @@ pub record TalcWalk (body : List ℕ) (place : ℕ) (r : Bool) (number : ℕ) (a
   pub is-number : number ≡ walkNumber (walkOf body (cursor place r))
   pub is-answer : answer ≡ inBytes (walkNumbers (walkOf body (cursor place r)))
 
--- ---- What an answer says of a text (document 02, Q-5)
--- the walk takes a field of a Text type there, and its data d are not empty
+-- ---- What an answer says of a field (document 02, Q-5 and Q-2)
+-- the walk takes a field there, of type k and with the data d
+pub record FieldAt (body : List ℕ) (place : ℕ) (r : Bool) (k : ℕ) (d : List ℕ) : Type 0 where
+  pub next : Cursor
+  pub taken : stepOf body (cursor place r) ≡ Took k (length d) next
+  pub content : d ≡ dataAt body place
+
+-- it is of a Text type, and its data are not empty
 pub record TextAt (body : List ℕ) (place : ℕ) (r : Bool) (d : List ℕ) : Type 0 where
   pub kind : ℕ
-  pub next : Cursor
-  pub taken : stepOf body (cursor place r) ≡ Took kind (length d) next
+  pub field : FieldAt body place r kind d
   pub shape : cond r (recordShape kind) (headerShape kind) ≡ Shape.Text
-  pub content : d ≡ dataAt body place
   pub some : length d ≡ 0 → ⊥
 
--- the kind of value that an answer tells, and where the text goes wrong if that is BadText: the numbers at 48 and 56
+-- it is an old save stamp
+pub record StampAt (body : List ℕ) (place : ℕ) (r : Bool) (d : List ℕ) : Type 0 where
+  pub kind : ℕ
+  pub field : FieldAt body place r kind d
+  pub old : OldStamp r kind d
+
+-- the kind of value that an answer tells, and the value: the numbers at 48 and 56
 abbrev pub toldValueKind : List ℕ → ℕ
 toldValueKind answer = numberLow (take 8 (drop 48 answer))
 
-abbrev pub toldWrong : List ℕ → ℕ
-toldWrong answer = numberLow (take 8 (drop 56 answer))
+abbrev pub toldValue : List ℕ → ℕ
+toldValue answer = numberLow (take 8 (drop 56 answer))

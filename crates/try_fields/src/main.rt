@@ -227,6 +227,16 @@ fn values() {
     single(true, 0x03, b"caf\xc3\xa9");
     single(true, 0x03, b"caf\xe9");
     single(false, 0x00, b"\x0e\x03");
+    say(b"-- old save stamps\n");
+    single(false, 0x04, b"48c2f739");
+    single(false, 0x13, b"48C2F739");
+    single(false, 0x04, b"ffffffff");
+    single(false, 0x04, b"0000000g");
+    single(false, 0x04, b"0x48c2f7");
+    single(false, 0x04, b"+8c2f739");
+    single(false, 0x04, b"48c2f73");
+    single(false, 0x04, b"048c2f739");
+    single(true, 0x07, b"48c2f739");
 }
 
 fn size(content: &[u8]) {
