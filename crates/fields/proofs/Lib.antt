@@ -5,6 +5,7 @@ mod Parts
 mod Appends
 pub mod Back
 pub mod Numbers
+pub mod UuidValue
 pub mod Stamps
 pub mod Texts
 pub mod Cases

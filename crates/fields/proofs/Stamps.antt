@@ -1,16 +1,16 @@
 -- An old save stamp is a Time exactly where its eight bytes spell it, and else Misshapen, as it was; every other field has the value of document 01's list: by the
 -- definition, and by what digits come to.
 use Prim.Native.Nat.{ℕ, _<_, _^_}
-use mathlib.Core.Path.{_≡_, refl, sym, ap, _∙_}
+use mathlib.Core.Path.{_≡_, refl, sym, _∙_}
 use mathlib.Core.Logic.{_↔_, _⊎_, inl, inr}
 use mathlib.Core.Bool.{Bool, true, false, cond, not, _&&_, _||_, false≢true}
-use mathlib.Core.List.{List, [], _∷_}
+use mathlib.Core.List.{List, map}
 use native.Mathlib.Omega.{arith}
 use lib.Dec.{eqb}
 use lib.ListN.{length}
-use borrow.Author.Tests.{eqb-true, eq-eqb}
-use Rattle.words.specs.Hex.{allDigits, hexNumber, Spells}
-use Rattle.words.proofs.HexNumbers.{number-fits, spells-exactly}
+use borrow.Author.Tests.{eqb-true}
+use Rattle.words.specs.Hex.{hexDigit, allDigits, hexNumber, digitsOf, Spells}
+use Rattle.words.proofs.HexNumbers.{number-fits, spells-exactly, digits-long, spelled-in}
 use Rattle.fields.specs.declared.value.Value.{Value}
 use Rattle.fields.specs.declared.value.Value.the-variants as Value
 use Rattle.fields.specs.Value.{headerShape, listedOf, oldStamp, stampOf, valueOf}
@@ -53,13 +53,13 @@ module _ (r : Bool) (k : ℕ) (d : List ℕ) where
     -- Q2.a "For header 04 and 13, eight hex digits of either case now give Time"
     pub stamp-exactly : (t : ℕ) → (valueOf r k d ≡ Value.Time t) ↔ Spells d t
     stamp-exactly t = (
-      λ h. spells-exactly d t .0 (by (allDigits d) refl (sym (as-stamp o) ∙ h)),
+      λ h. spells-exactly d t .0 (by (allDigits d) (sym (as-stamp o) ∙ h)),
       λ s. let x = spells-exactly d t .1 s in as-stamp o ∙ rw (x .0, x .1),
     )
       where
-        by : (b : Bool) → allDigits d ≡ b → cond b (Value.Time (hexNumber d)) Value.Misshapen ≡ Value.Time t → (b ≡ true) × (hexNumber d ≡ t)
-        by true e h = (refl, cc)
-        by false e h = absurd (let z : _≡_ {A = ℕ} 0 1 = cc in omega arith)
+        by : (b : Bool) → cond b (Value.Time (hexNumber d)) Value.Misshapen ≡ Value.Time t → (b ≡ true) × (hexNumber d ≡ t)
+        by true h = (refl, cc)
+        by false h = absurd (let z : _≡_ {A = ℕ} 0 1 = cc in omega arith)
 
     -- Q2.a "eight bytes that are not all hex digits stay Misshapen"
     pub stamp-else : (valueOf r k d ≡ Value.Misshapen) ↔ ((t : ℕ) → Spells d t → ⊥)
@@ -80,6 +80,12 @@ module _ (r : Bool) (k : ℕ) (d : List ℕ) where
         by : (k ≡ 0x04) ⊎ (k ≡ 0x13) → listedOf r k d ≡ Value.Misshapen
         by (inl e) = rw (e, o .header, o .eight) refl
         by (inr e) = rw (e, o .header, o .eight) refl
+
+-- every time can be met
+pub every-time : (k : ℕ) → (k ≡ 0x04) ⊎ (k ≡ 0x13) → (t : ℕ) → t < 2 ^ 32 → valueOf false k (map hexDigit (digitsOf 8 t)) ≡ Value.Time t
+every-time k h t l =
+    let s : Spells (map hexDigit (digitsOf 8 t)) t = spelled-in 8 t l in
+    stamp-exactly false k (map hexDigit (digitsOf 8 t)) (record { header = refl; kind = h; eight = digits-long 8 t }) t .1 s
 
 -- eight digits are told whole
 pub stamp-small : (d : List ℕ) → length d ≡ 8 → allDigits d ≡ true → hexNumber d < 2 ^ 32

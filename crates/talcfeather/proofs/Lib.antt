@@ -1,5 +1,4 @@
 pub mod InBytes
-mod UuidValue
 mod Keys
 pub mod OneAnswer
 pub mod AsRead

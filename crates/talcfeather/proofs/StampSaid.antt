@@ -1,15 +1,14 @@
 -- What `talc_walk` answers of an old save stamp: Time with the number that it spells, and else Misshapen; everything else is as by document 01's list. By the values of
 -- a field (fields, Stamps.antt), and since the walk's step has no value.
-use Prim.Native.Nat.{ℕ, _+_, _*_, _%_, _^_, _<_}
-use mathlib.Core.Path.{_≡_, refl, sym, ap, ap₂, _∙_}
+use Prim.Native.Nat.{ℕ, _+_, _^_, _<_}
+use mathlib.Core.Path.{_≡_, refl, sym, ap, _∙_}
 use mathlib.Core.Logic.{_↔_}
 use mathlib.Core.Bool.{Bool}
 use mathlib.Core.List.{List}
-use native.Mathlib.Nat.{mod-eq-of-lt}
 use native.Mathlib.Omega.{arith}
-use lib.ListN.{length, getD, take, drop}
+use lib.ListN.{length, take, drop}
 use Rattle.words.specs.Hex.{Spells}
-use Rattle.fields.specs.Value.{listedOf, valueOf, valueNumbers}
+use Rattle.fields.specs.Value.{listedOf, valueOf}
 use Rattle.fields.specs.Step.{stepOf}
 use Rattle.fields.specs.Walk.{fieldBy, withValue, walkBy, walkNumber, walkNumbers}
 use Rattle.fields.specs.declared.Stepped.{Stepped}
@@ -40,10 +39,10 @@ module _ {body answer : List ℕ} {place n : ℕ} {r : Bool} (c : TalcWalk body 
     pub stamp-said : (t : ℕ) → ((toldValueKind answer ≡ 3) × (toldValue answer ≡ t)) ↔ Spells d t
     stamp-said t = (
       λ h.
-        let v = by-kind c (s .field) 3 (h .0) in
-        let x = stamp-exactly r (s .kind) d (s .old) _ .0 v in
-        let e = of-value c (s .field) _ v (fits d _ (s .old .eight) x) .1 in
-        rw (← h .1, e) x,
+          let v = by-kind c (s .field) 3 (h .0) in
+          let x = stamp-exactly r (s .kind) d (s .old) _ .0 v in
+          let e = of-value c (s .field) _ v (fits d _ (s .old .eight) x) .1 in
+          rw (← h .1, e) x,
       λ x. of-value c (s .field) (Value.Time t) (stamp-exactly r (s .kind) d (s .old) t .1 x) (fits d t (s .old .eight) x),
     )
 

@@ -6,12 +6,12 @@ use mathlib.Core.Logic.{_↔_}
 use mathlib.Core.Bool.{Bool}
 use mathlib.Core.List.{List}
 use native.Mathlib.Omega.{arith}
-use lib.ListN.{length, getD, take, drop, replicate}
+use lib.ListN.{length, take, drop, replicate}
 use Rattle.words.specs.Numbers.{numberLow}
 use Rattle.words.proofs.NumberLaws.{number-bytes}
 use Rattle.text.specs.Grammar.{IsText}
 use Rattle.text.specs.GoesWrong.{GoesWrongAt}
-use Rattle.fields.specs.Value.{valueOf, valueNumbers}
+use Rattle.fields.specs.Value.{valueOf}
 use Rattle.fields.specs.Step.{stepOf}
 use Rattle.fields.specs.Walk.{withValue, walkNumbers}
 use Rattle.fields.specs.declared.Stepped.{Stepped}

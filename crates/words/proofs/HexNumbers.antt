@@ -1,11 +1,12 @@
--- Numbers in hex digits: with one digit more, and that a list of digits comes to a number exactly where it spells it; by recursion on the list.
+-- Numbers in hex digits: with one digit more; that a list of digits comes to a number exactly where it spells it; that every number is spelled. By recursion on the
+-- list, and on the number of digits.
 use mathlib.Core.Path.{_≡_, refl, sym, ap, ap₂, _∙_}
 use mathlib.Core.Logic.{_↔_}
-use mathlib.Core.Bool.{Bool, true}
+use mathlib.Core.Bool.{true}
 use mathlib.Core.List.{List, [], _∷_, _++_, map}
 use Prim.Native.Nat.{ℕ, zero, suc, _+_, _-_, _*_, _/_, _%_, _^_, _<_, _≤_}
 use native.Mathlib.Omega.{arith}
-use native.Mathlib.Nat.{mul-assoc, mul-comm, add-comm, mod-eq-of-lt, mod-lt, pow-suc, one-le-pow, add-mul-div-right, mul-add-mod-self-right}
+use native.Mathlib.Nat.{mul-assoc, mul-comm, add-comm, mod-eq-of-lt, pow-suc, one-le-pow, add-mul-div-right, mul-add-mod-self-right}
 use native.Mathlib.Numerals.{add-one}
 use lib.Arith.{digits-lt, digits-div, mod-mul}
 use lib.Dec.{ltb}
@@ -13,8 +14,9 @@ use lib.ListN.{length, getD, take, length-append}
 use lib.Pow.{pow-add}
 use lib.Seq.{take-suc}
 use borrow.Author.Tests.{ltb-true, lt-ltb}
-use Rattle.words.specs.Hex.{hexValue, allDigits, hexNumber, digitsOf, Spells}
+use Rattle.words.specs.Hex.{hexValue, hexDigit, allDigits, hexNumber, digitsOf, Spells}
 use Rattle.words.proofs.EachLaws.{both, and}
+use Rattle.words.proofs.HexLaws.{read-back}
 
 -- ---- one digit more
 shuffle : (v p : ℕ) → v * (p * 16) ≡ 16 * (v * p)
@@ -30,8 +32,7 @@ unfolding hexNumber
 one-more [] d = omega arith
 one-more (x ∷ s) d =
     let ih : hexNumber (s ++ (d ∷ [])) ≡ 16 * hexNumber s + hexValue d = one-more s d in
-    let e : hexValue x * 16 ^ length (s ++ (d ∷ [])) ≡ 16 * (hexValue x * 16 ^ length s) =
-        ap (λ (p : ℕ). hexValue x * p) (longer s d) ∙ shuffle (hexValue x) (16 ^ length s) in
+    let e : hexValue x * 16 ^ length (s ++ (d ∷ [])) ≡ 16 * (hexValue x * 16 ^ length s) = ap (λ (p : ℕ). hexValue x * p) (longer s d) ∙ shuffle (hexValue x) (16 ^ length s) in
     omega (arith, ih, e)
 
 -- a turn of the loop, modulo 2^32
@@ -82,8 +83,7 @@ spelled [] h = refl
 spelled (d ∷ s) h =
     let x = both (ltb (hexValue d) 16) (allDigits s) h in
     let v : hexValue d < 16 = ltb-true (hexValue d) 16 (x .0) in
-    let e : hexNumber (d ∷ s) / 16 ^ length s % 16 ≡ hexValue d =
-        ap (λ (q : ℕ). q % 16) (digits-div (hexValue d) (number-fits s (x .1))) ∙ mod-eq-of-lt v in
+    let e : hexNumber (d ∷ s) / 16 ^ length s % 16 ≡ hexValue d = ap (λ (q : ℕ). q % 16) (digits-div (hexValue d) (number-fits s (x .1))) ∙ mod-eq-of-lt v in
     ap₂ _∷_ (sym e) (spelled s (x .1) ∙ sym (low-digits (length s) (length s) (hexValue d) (hexNumber s) (omega arith)))
 
 -- a list whose digits are those of x comes to x, as far as it goes
@@ -94,9 +94,10 @@ come-to (d ∷ s) x h =
     let v : hexValue d ≡ x / 16 ^ length s % 16 = cc in
     let t : map hexValue s ≡ digitsOf (length s) x = cc in
     let r = come-to s x t in
-    let l : hexValue d < 16 = omega (arith, v) in
-    (and (ltb (hexValue d) 16) (allDigits s) (lt-ltb (hexValue d) 16 l) (r .0),
-      ap₂ (λ (a b : ℕ). a * 16 ^ length s + b) v (r .1) ∙ sym (rw sixteen-more (mod-mul x {m = 16} (omega arith) (pos (length s)))))
+    let l : hexValue d < 16 = omega (arith, v) in (
+      and (ltb (hexValue d) 16) (allDigits s) (lt-ltb (hexValue d) 16 l) (r .0),
+      ap₂ (λ (a b : ℕ). a * 16 ^ length s + b) v (r .1) ∙ sym (rw sixteen-more (mod-mul x {m = 16} (omega arith) (pos (length s)))),
+    )
 
 pub spells-exactly : (s : List ℕ) (x : ℕ) → ((allDigits s ≡ true) × (hexNumber s ≡ x)) ↔ Spells s x
 spells-exactly s x = (forth, back)
@@ -109,3 +110,20 @@ spells-exactly s x = (forth, back)
 
     back : Spells s x → (allDigits s ≡ true) × (hexNumber s ≡ x)
     back p = let r = come-to s x (p .digits) in (r .0, r .1 ∙ mod-eq-of-lt (p .fits))
+
+-- every number is spelled, in lower case
+pub digits-long : (n x : ℕ) → length (map hexDigit (digitsOf n x)) ≡ n
+unfolding digitsOf
+digits-long zero x = refl
+digits-long (suc n) x = ap suc (digits-long n x)
+
+digits-back : (n x : ℕ) → map hexValue (map hexDigit (digitsOf n x)) ≡ digitsOf n x
+unfolding digitsOf
+digits-back zero x = refl
+digits-back (suc n) x = ap₂ _∷_ (read-back (x / 16 ^ n % 16) (omega arith)) (digits-back n x)
+
+pub spelled-in : (n x : ℕ) → x < 16 ^ n → Spells (map hexDigit (digitsOf n x)) x
+spelled-in n x h = record {
+  fits = rw (digits-long n x) h;
+  digits = rw (digits-long n x) (digits-back n x);
+}

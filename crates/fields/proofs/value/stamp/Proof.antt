@@ -1,5 +1,4 @@
 -- `fields::value::stamp` meets its contract: eight digits come to less than 2^32, so that their number is told whole.
-use Prim.Native.Nat.{_%_, _^_}
 use mathlib.Core.Path.{_≡_, sym, ap, _∙_}
 use mathlib.Core.Bool.{true, false}
 use native.Mathlib.Nat.{mod-eq-of-lt}

@@ -4,7 +4,7 @@ use native.Mathlib.Omega.{arith}
 use Rattle.words.proofs.ByteLaws.{bytes-of}
 use Rattle.body.specs.Find.{findOf}
 use Rattle.talcfeather.specs.Find.{foundOf}
-use Rattle.talcfeather.proofs.UuidValue.{always-uuid, uuid-halves}
+use Rattle.fields.proofs.UuidValue.{always-uuid, uuid-halves}
 use borrow.Author.Needs.{needs}
 use Rattle.talcfeather.proofs.find.found.Statement.{statement}
 use Rattle.talcfeather.proofs.find.found.Tie as tie
