@@ -2,29 +2,25 @@
 use Prim.Native.Nat.{ℕ}
 use mathlib.Core.Path.{_≡_, refl}
 use mathlib.Core.Bool.{Bool, true, false, _&&_}
-use mathlib.Core.List.{List, [], _∷_}
+use mathlib.Core.List.{List}
 use lib.Dec.{eqb}
 use lib.ListN.{length, take, drop}
-use types.Run.{OneOf}
-use denote.Enum.Declared.{tagOf}
 use borrow.Author.Tests.{eqb-true, eq-eqb}
 use Rattle.words.specs.Numbers.{numberLow}
 use Rattle.fields.specs.Value.{valueOf}
 use Rattle.fields.specs.declared.value.Value.{Value}
 use Rattle.fields.specs.declared.value.Value.the-variants as Value
-use Rattle.fields.proofs.value.Value as value
-use Rattle.fields.proofs.UuidValue.{uuid-long, uuid-halves, always-uuid}
+use Rattle.fields.proofs.UuidValue.{uuid-exactly, Another, always-uuid}
 use Rattle.body.specs.Find.{isUuid}
 
 module _ (d : List ℕ) (a b : ℕ) where
   pub uuid-took : (x y : ℕ) → valueOf true 0x01 d ≡ Value.Uuid x y → (eqb x a && eqb y b) ≡ isUuid d a b
   unfolding isUuid
   uuid-took x y e =
-      let l = uuid-long d x y e in
-      let h = uuid-halves d x y l e in
-      rw (eq-eqb (length d) 16 l, h .0, h .1)
+      let h = uuid-exactly d x y .0 e in
+      rw (eq-eqb (length d) 16 (h .0), h .1, h .2)
 
-  pub uuid-else : (v : Value) → v ≡ valueOf true 0x01 d → OneOf (0 ∷ 1 ∷ 3 ∷ 4 ∷ 5 ∷ 6 ∷ 7 ∷ 8 ∷ 9 ∷ []) (tagOf value.the-type v) → false ≡ isUuid d a b
+  pub uuid-else : (v : Value) → v ≡ valueOf true 0x01 d → Another v → false ≡ isUuid d a b
   unfolding isUuid
   uuid-else v e o = by (eqb (length d) 16) refl
     where

@@ -123,7 +123,7 @@ values =
     ∷ (valueOf false 0x00 (0x0e ∷ 0x03 ∷ []) ∷ valueOf true 0x13 (0x01 ∷ 0x02 ∷ []) ∷ valueOf true 0x17 (0x01 ∷ 0x02 ∷ []) ∷ [], Value.Number 0x030e ∷ Value.Number 0x0201 ∷ Value.Number 0x0201 ∷ [])
     ∷ (valueOf true 0x15 (0x00 ∷ []) ∷ valueOf true 0x15 (0x01 ∷ []) ∷ valueOf true 0x15 (0x80 ∷ []) ∷ [], Value.Flag false ∷ Value.Flag true ∷ Value.Flag true ∷ [])
     ∷ (map (λ k. valueOf true k (0x01 ∷ 0x02 ∷ 0x03 ∷ [])) (0x07 ∷ 0x11 ∷ 0x13 ∷ 0x15 ∷ []), replicate 4 Value.Misshapen)
-    -- Q-2: eight hex digits under every type, in the header and in a record
+    -- Q-2: eight hex digits under the header's types up to 14, and in a record under its times and three others
     ∷ (
       map (λ k. valueOf false k (eight 0x39)) (to 0x00 0x14),
       Value.Misshapen ∷ Value.Misshapen ∷ Value.Text ∷ Value.Text ∷ Value.Time 0x48c2f739 ∷ Value.Text ∷ Value.Text ∷ Value.Text
@@ -134,7 +134,7 @@ values =
     -- the last digit of either case; what is next to a digit in ASCII, and what other readers take: + - space x 00
     ∷ (map (λ b. valueOf false 0x04 (eight b)) (0x30 ∷ 0x39 ∷ 0x41 ∷ 0x46 ∷ 0x61 ∷ 0x66 ∷ []), map Value.Time (0x48c2f730 ∷ 0x48c2f739 ∷ 0x48c2f73a ∷ 0x48c2f73f ∷ 0x48c2f73a ∷ 0x48c2f73f ∷ []))
     ∷ (map (λ b. valueOf false 0x13 (eight b)) (0x2f ∷ 0x3a ∷ 0x40 ∷ 0x47 ∷ 0x60 ∷ 0x67 ∷ 0x2b ∷ 0x2d ∷ 0x20 ∷ 0x78 ∷ 0x00 ∷ 0xff ∷ []), replicate 12 Value.Misshapen)
-    -- seven and nine digits; the least and the greatest; a digit that is none at the front
+    -- seven and nine digits, and a byte that is no digit at the front; the least and the greatest
     ∷ (valueOf false 0x04 (replicate 7 0x30) ∷ valueOf false 0x04 (replicate 9 0x30) ∷ valueOf false 0x04 (0x78 ∷ replicate 7 0x30) ∷ [], replicate 3 Value.Misshapen)
     ∷ (valueOf false 0x13 (replicate 8 0x30) ∷ valueOf false 0x13 (replicate 8 0x46) ∷ [], Value.Time 0 ∷ Value.Time 0xffffffff ∷ [])
     -- BadText with its number, and the same bytes under a type that is none of a text

@@ -24,7 +24,7 @@ use Rattle.fields.specs.Value.{headerShape, recordShape, textual, shaped
 use Rattle.fields.specs.Stamp.{OldStamp}
 use Rattle.fields.proofs.Stamps.{as-stamp, as-listed}
 
--- END is of no Text type, and an old save stamp neither
+-- END is of no Text type, nor is an old save stamp
 not-end : (r : Bool) (k : ℕ) → cond r (recordShape k) (headerShape k) ≡ Shape.Text → k ≡ 0xff → ⊥
 unfolding recordShape headerShape
 not-end true k h e = let z : _≡_ {A = ℕ} 0 1 = cc in omega arith

@@ -69,7 +69,7 @@ shapedOf Shape.Flag d = sized 1 d (Value.Flag (not (eqb (getD d 0 0) 0)))
 shapedOf Shape.Text d = textual (goesWrongOf d)
 shapedOf Shape.Opaque d = Value.Opaque
 
--- the value by document 01's list; r: in a record, not in the header; k: the type; d: the data
+-- by the list of values, as document 01 has it, with Q-5's number; r: in a record, not in the header; k: the type; d: the data
 abbrev pub listedOf : Bool → ℕ → List ℕ → Value
 listedOf r k d =
     cond (eqb k 0xff) Value.End
@@ -78,9 +78,9 @@ listedOf r k d =
 
 -- the header's times
 abbrev pub headerTime : Bool → ℕ → Bool
-headerTime r k = not r && among k (0x04 ∷ 0x13 ∷ [])
+headerTime r k = not r && among k (headerTypes Shape.Time)
 
--- one of n bytes is an old save stamp
+-- one of them with n = 8 bytes is an old save stamp
 abbrev pub oldStamp : Bool → ℕ → ℕ → Bool
 oldStamp r k n = headerTime r k && eqb n 8
 

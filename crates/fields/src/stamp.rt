@@ -1,4 +1,4 @@
-// Old save stamps: times of the header that programs stored as hex digits before Password Safe 3.09.
+// Old save stamps: times of the header in eight bytes, which programs before Password Safe 3.09 stored as hex digits.
 ghost use mathlib.Core.Path.{_≡_};
 ghost use Rattle.fields.specs.Value.{headerTime, oldStamp};
 
@@ -17,7 +17,7 @@ fn header_time(in_record: bool, kind: u8) -> bool
     false
 }
 
-// Whether n bytes of that type are one.
+// Whether n bytes of a type are one.
 pub fn old_stamp(in_record: bool, kind: u8, n: usize) -> bool
     ensures { λ r. ⌜ r ≡ oldStamp «in_record» kind n ⌝ }
 {

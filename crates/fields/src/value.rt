@@ -182,7 +182,7 @@ fn shaped(s: Shape, d: &[u8]) -> Value
     }
 }
 
-// By document 01's list.
+// By the list of values, before it is amended.
 fn listed(in_record: bool, kind: u8, d: &[u8]) -> Value
     ensures { λ r. ⌜ r ≡ listedOf «in_record» kind (now (d .entry)) ⌝ }
 {
@@ -199,11 +199,11 @@ fn listed(in_record: bool, kind: u8, d: &[u8]) -> Value
 }
 
 // The value of an old save stamp: hex digits, the highest first.
-fn stamp(d: &[u8]) -> Value
+fn stamped(d: &[u8]) -> Value
     requires { ⌜ length (now d) ≡ 8 ⌝ }
     ensures { λ r. ⌜ r ≡ stampOf (now (d .entry)) ⌝ }
 {
-    if words::hex::digits(d) {
+    if words::hex::all_digits(d) {
         return Value::Time(words::hex::number(d));
     }
     Value::Misshapen
@@ -213,7 +213,7 @@ pub fn value_of(in_record: bool, kind: u8, d: &[u8]) -> Value
     ensures { λ r. ⌜ r ≡ valueOf «in_record» kind (now (d .entry)) ⌝ }
 {
     if crate::stamp::old_stamp(in_record, kind, d.len()) {
-        return stamp(d);
+        return stamped(d);
     }
     listed(in_record, kind, d)
 }

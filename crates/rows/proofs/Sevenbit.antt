@@ -3,14 +3,13 @@ use Prim.Native.Nat.{ℕ, zero, suc, _+_, _<_, _≤_}
 use mathlib.Core.Path.{_≡_, refl, sym, ap, _∙_}
 use mathlib.Core.Bool.{Bool, true, false, cond, _&&_}
 use mathlib.Core.List.{List, [], _∷_, _++_}
-use native.Mathlib.Numerals.{add-one}
 use native.Mathlib.Omega.{arith}
 use lib.Dec.{eqb, ltb}
-use lib.ListN.{length, getD, drop, length-append, drop-of-length-le}
-use lib.Seq.{drop-cons, getD-at}
+use lib.ListN.{length, getD, drop, length-append}
+use lib.Seq.{getD-at}
 use borrow.Author.Tests.{ne-eqb, ltb-true}
 use Rattle.words.specs.Members.{among}
-use Rattle.words.proofs.EachLaws.{both}
+use Rattle.words.proofs.EachLaws.{both, all-on, all-end}
 use Rattle.text.specs.Grammar.{one, WellFormedUtf8, end, char, IsText}
 use Rattle.text.specs.Decision.{goesWrongOf}
 use Rattle.text.specs.declared.Wrong.the-variants.{Nowhere}
@@ -34,14 +33,10 @@ and-true false = refl
 
 module _ (d : List ℕ) (i : ℕ) (all : Bool) (h : (all && isPlain (drop i d)) ≡ isPlain d) where
   pub plain-on : i < length d → ((all && plainByte (getD d i 0)) && isPlain (drop (i + 1) d)) ≡ isPlain d
-  plain-on l =
-      let z : isPlain (drop i d) ≡ (plainByte (getD d i 0) && isPlain (drop (i + 1) d)) = rw (add-one, drop-cons d i 0 l) in
-      and-again all (plainByte (getD d i 0)) (isPlain (drop (i + 1) d)) ∙ ap (_&&_ all) (sym z) ∙ h
+  plain-on l = and-again all (plainByte (getD d i 0)) (isPlain (drop (i + 1) d)) ∙ ap (_&&_ all) (sym (all-on plainByte d 0 i l)) ∙ h
 
   pub plain-end : length d ≤ i → all ≡ isPlain d
-  plain-end l =
-      let z : isPlain (drop i d) ≡ true = rw (drop-of-length-le d {i = i} l) in
-      sym (and-true all) ∙ ap (_&&_ all) (sym z) ∙ h
+  plain-end l = sym (and-true all) ∙ ap (_&&_ all) (sym (all-end plainByte d 0 i l)) ∙ h
 
 -- ---- what it says
 record Between (b : ℕ) : Type 0 where

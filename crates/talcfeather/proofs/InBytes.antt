@@ -7,7 +7,7 @@ use native.Mathlib.Omega.{arith}
 use borrow.Author.Tests.{ltb-true, ltb-false}
 use lib.Dec.{ltb}
 use lib.ListN.{length, getD, take, drop, length-append, drop-of-length-le, List·getD-append}
-use lib.Seq.{paste, take-all, take-at, take-append-add, drop-at, drop-drop, getD-append-add}
+use lib.Seq.{paste, take-all, take-at, drop-at, drop-drop, getD-append-add}
 use Rattle.words.specs.Numbers.{bytesLow, byteOf}
 use Rattle.words.proofs.NumberLaws.{bytes-sized, byte-is}
 use Rattle.talcfeather.specs.Numbers.{inBytes}
@@ -27,16 +27,6 @@ number-at (x ∷ l) (suc i) h =
     ap (λ (n : ℕ). take 8 (drop n (bytesLow 8 x ++ inBytes l))) e
     ∙ ap (take 8) (sym (drop-drop (8 * i) 8 (bytesLow 8 x ++ inBytes l)) ∙ ap (drop (8 * i)) (drop-at (bytesLow 8 x) (inBytes l) 8 (bytes-sized 8 x .long)))
     ∙ number-at l i (omega arith)
-
--- the first i numbers are the first 8 i bytes
-pub numbers-front : (l : List ℕ) (i : ℕ) → i ≤ length l → take (8 * i) (inBytes l) ≡ inBytes (take i l)
-unfolding inBytes
-numbers-front l zero h = refl
-numbers-front [] (suc i) h = absurd (omega arith)
-numbers-front (x ∷ l) (suc i) h =
-    let e : 8 * suc i ≡ length (bytesLow 8 x) + 8 * i = omega (arith, bytes-sized 8 x .long) in
-    ap (λ (n : ℕ). take n (bytesLow 8 x ++ inBytes l)) e ∙ take-append-add (bytesLow 8 x) (inBytes l) (8 * i)
-    ∙ ap (λ (m : List ℕ). bytesLow 8 x ++ m) (numbers-front l i (omega arith))
 
 -- byte i of stored numbers is byte i % 8 of number i / 8
 abbrev Right : List ℕ → ℕ → Type 0

@@ -1,16 +1,18 @@
--- What `talc_walk` answers of an old save stamp: Time with the number that it spells, and else Misshapen; everything else is as by document 01's list. By the values of
--- a field (fields, Stamps.antt), and since the walk's step has no value.
-use Prim.Native.Nat.{ℕ, _+_, _^_, _<_}
+-- What `talc_walk` answers of an old save stamp: Time with the number that it spells, and else Misshapen; everything else is as by the list before Q-2. By the values of a
+-- field (fields, Stamps.antt), and since the walk's step makes no value.
+use Prim.Native.Nat.{ℕ, zero, suc, _+_, _*_, _^_, _<_}
 use mathlib.Core.Path.{_≡_, refl, sym, ap, _∙_}
 use mathlib.Core.Logic.{_↔_}
-use mathlib.Core.Bool.{Bool}
+use mathlib.Core.Bool.{Bool, true, false, cond, false≢true}
 use mathlib.Core.List.{List}
 use native.Mathlib.Omega.{arith}
-use lib.ListN.{length, take, drop}
-use Rattle.words.specs.Hex.{Spells}
-use Rattle.fields.specs.Value.{listedOf, valueOf}
+use lib.ListN.{length, getD, take, drop}
+use Rattle.words.specs.Hex.{Digits, allDigits, hexNumber, Spells}
+use Rattle.words.specs.Numbers.{bytesLow}
+use Rattle.fields.specs.Value.{oldStamp, listedOf, valueOf, valueNumbers}
 use Rattle.fields.specs.Step.{stepOf}
 use Rattle.fields.specs.Walk.{fieldBy, withValue, walkBy, walkNumber, walkNumbers}
+use Rattle.fields.specs.declared.Cursor.{Cursor}
 use Rattle.fields.specs.declared.Stepped.{Stepped}
 use Rattle.fields.specs.declared.Stepped.the-variants as Stepped
 use Rattle.fields.specs.declared.Walked.{Walked}
@@ -18,20 +20,49 @@ use Rattle.fields.specs.declared.Walked.the-variants.{Took}
 use Rattle.fields.specs.declared.value.Value.{Value}
 use Rattle.fields.specs.declared.value.Value.the-variants as Value
 use Rattle.fields.proofs.Numbers.{walk-numbers}
-use Rattle.fields.proofs.Stamps.{as-listed, stamp-exactly, stamp-else}
+use Rattle.fields.proofs.Stamps.{old-exactly, as-stamp, as-listed, stamp-exactly, stamp-else, stamp-before, unless-digits}
 use Rattle.fields.proofs.Valued.{valued}
 use Rattle.talcfeather.specs.Numbers.{inBytes}
-use Rattle.talcfeather.proofs.InBytes.{numbers-front}
+use Rattle.talcfeather.proofs.InBytes.{number-at}
 use Rattle.talcfeather.proofs.ValueSaid.{nine, field-at, by-kind, of-value}
 use Rattle.talcfeather.specs.Walk.{cursor, TalcWalk, StampAt, toldValueKind, toldValue}
 
--- a number of eight digits
+-- it fits its 8 bytes
 fits : (d : List ℕ) (t : ℕ) → length d ≡ 8 → Spells d t → t < 2 ^ 64
 fits d t l s = let h = s .fits in let i : t < 16 ^ 8 = rw l at h in omega arith
 
--- an answer up to the value
-abbrev front : Walked → List ℕ
-front w = take 48 (inBytes (walkNumbers w))
+-- a number of an answer
+abbrev number : ℕ → Walked → List ℕ
+number i w = take 8 (drop (8 * i) (inBytes (walkNumbers w)))
+
+-- the second half of a Uuid is there in both, or in neither
+third : (r : Bool) (k : ℕ) (d : List ℕ) → getD (valueNumbers (valueOf r k d)) 2 0 ≡ getD (valueNumbers (listedOf r k d)) 2 0
+third r k d = by (oldStamp r k (length d)) refl
+  where
+    zero-of : (b : Bool) (t : ℕ) → getD (valueNumbers (cond b (Value.Time t) Value.Misshapen)) 2 0 ≡ 0
+    zero-of true t = refl
+    zero-of false t = refl
+
+    by : (b : Bool) → oldStamp r k (length d) ≡ b → getD (valueNumbers (valueOf r k d)) 2 0 ≡ getD (valueNumbers (listedOf r k d)) 2 0
+    by true e =
+        let o = old-exactly r k d .0 e in
+        ap (λ (v : Value). getD (valueNumbers v) 2 0) (as-stamp r k d o) ∙ zero-of (allDigits d) (hexNumber d)
+        ∙ sym (ap (λ (v : Value). getD (valueNumbers v) 2 0) (stamp-before r k d o))
+    by false e = ap (λ (v : Value). getD (valueNumbers v) 2 0) (as-listed r k d (λ o. false≢true (sym e ∙ old-exactly r k d .1 o)))
+
+-- the numbers beside a value's first two do not go by it
+beside : (d : Cursor) (k p n : ℕ) (v w : Value) → getD (valueNumbers v) 2 0 ≡ getD (valueNumbers w) 2 0 → (i : ℕ) → i < 9 → (i ≡ 6 → ⊥) → (i ≡ 7 → ⊥)
+    → getD (walkNumbers (Took (record { kind = k; place = p; len = n; value = v }) d)) i 0 ≡ getD (walkNumbers (Took (record { kind = k; place = p; len = n; value = w }) d)) i 0
+beside d k p n v w t zero h six seven = refl
+beside d k p n v w t (suc zero) h six seven = refl
+beside d k p n v w t (suc (suc zero)) h six seven = refl
+beside d k p n v w t (suc (suc (suc zero))) h six seven = refl
+beside d k p n v w t (suc (suc (suc (suc zero)))) h six seven = refl
+beside d k p n v w t (suc (suc (suc (suc (suc zero))))) h six seven = refl
+beside d k p n v w t (suc (suc (suc (suc (suc (suc zero)))))) h six seven = absurd (six refl)
+beside d k p n v w t (suc (suc (suc (suc (suc (suc (suc zero))))))) h six seven = absurd (seven refl)
+beside d k p n v w t (suc (suc (suc (suc (suc (suc (suc (suc zero)))))))) h six seven = t
+beside d k p n v w t (suc (suc (suc (suc (suc (suc (suc (suc (suc i))))))))) h six seven = absurd (omega arith)
 
 module _ {body answer : List ℕ} {place n : ℕ} {r : Bool} (c : TalcWalk body place r n answer) where
   module _ (d : List ℕ) (s : StampAt body place r d) where
@@ -47,7 +78,7 @@ module _ {body answer : List ℕ} {place n : ℕ} {r : Bool} (c : TalcWalk body 
     )
 
     -- Q2.a "eight bytes that are not all hex digits stay Misshapen"
-    pub misshapen-said : (toldValueKind answer ≡ 8) ↔ ((t : ℕ) → Spells d t → ⊥)
+    pub misshapen-said : (toldValueKind answer ≡ 8) ↔ (Digits d → ⊥)
     misshapen-said = (
       λ h. stamp-else r (s .kind) d (s .old) .0 (by-kind c (s .field) 8 h),
       λ x. of-value c (s .field) Value.Misshapen (stamp-else r (s .kind) d (s .old) .1 x) (omega arith) .0,
@@ -58,34 +89,37 @@ module _ {body answer : List ℕ} {place n : ℕ} {r : Bool} (c : TalcWalk body 
       → walkBy valueOf body (cursor place r) ≡ walkBy listedOf body (cursor place r)
   alike w e h = valued valueOf body (cursor place r) w e ∙ h ∙ sym (valued listedOf body (cursor place r) w e)
 
-  -- Q2.b of every other field, and where there is none, the answer is that by 01's list
-  pub listed-said : ((d : List ℕ) → StampAt body place r d → ⊥) → answer ≡ inBytes (walkNumbers (walkBy listedOf body (cursor place r)))
+  -- Q2.b of every other field, where there is none, and of an old stamp that is not all digits, the whole answer is what it was
+  pub listed-said : ((d : List ℕ) → StampAt body place r d → Digits d → ⊥) → answer ≡ inBytes (walkNumbers (walkBy listedOf body (cursor place r)))
   listed-said other = c .is-answer ∙ ap (λ w. inBytes (walkNumbers w)) (by (stepOf body (cursor place r)) refl)
     where
       by : (w : Stepped) → stepOf body (cursor place r) ≡ w → walkBy valueOf body (cursor place r) ≡ walkBy listedOf body (cursor place r)
       by (Stepped.Took k m next) e =
           let d = take m (drop (place + 5) body) in
-          let v : valueOf r k d ≡ listedOf r k d = as-listed r k d (λ o. other d (record { kind = k; field = field-at k m next e; old = o })) in
+          let v : valueOf r k d ≡ listedOf r k d = unless-digits r k d (λ o. other d (record { kind = k; field = field-at k m next e; old = o })) in
           alike _ e (ap (λ (x : Value). Took (record { kind = k; place = place; len = m; value = x }) next) v)
       by Stepped.Finished e = alike _ e refl
       by Stepped.Misplaced e = alike _ e refl
       by Stepped.Broken e = alike _ e refl
 
-  -- Q2.b "acceptance and refusals aren't": of an old stamp too, all but its value
+  -- Q2.b "acceptance and refusals aren't"
   pub refusal-said : n ≡ walkNumber (walkBy listedOf body (cursor place r))
   refusal-said = c .is-number ∙ walk-numbers valueOf body (cursor place r) ∙ sym (walk-numbers listedOf body (cursor place r))
 
-  pub rest-said : take 48 answer ≡ take 48 (inBytes (walkNumbers (walkBy listedOf body (cursor place r))))
-  rest-said = ap (take 48) (c .is-answer) ∙ by (stepOf body (cursor place r)) refl
+  -- of an old stamp too, every number is what it was but the kind of its value and the value: those at 48 and 56
+  pub rest-said : (i : ℕ) → i < 9 → (i ≡ 6 → ⊥) → (i ≡ 7 → ⊥)
+      → take 8 (drop (8 * i) answer) ≡ take 8 (drop (8 * i) (inBytes (walkNumbers (walkBy listedOf body (cursor place r)))))
+  rest-said i h six seven = ap (λ (l : List ℕ). take 8 (drop (8 * i) l)) (c .is-answer) ∙ by (stepOf body (cursor place r)) refl
     where
-      by : (w : Stepped) → stepOf body (cursor place r) ≡ w → front (walkBy valueOf body (cursor place r)) ≡ front (walkBy listedOf body (cursor place r))
+      by : (w : Stepped) → stepOf body (cursor place r) ≡ w → number i (walkBy valueOf body (cursor place r)) ≡ number i (walkBy listedOf body (cursor place r))
       by (Stepped.Took k m next) e =
           let a = fieldBy valueOf body (cursor place r) k m in
           let b = fieldBy listedOf body (cursor place r) k m in
-          ap (λ (w : Walked). front w) (valued valueOf body (cursor place r) _ e)
-          ∙ numbers-front (walkNumbers (Took a next)) 6 (omega (arith, nine a next))
-          ∙ sym (numbers-front (walkNumbers (Took b next)) 6 (omega (arith, nine b next)))
-          ∙ sym (ap (λ (w : Walked). front w) (valued listedOf body (cursor place r) _ e))
-      by Stepped.Finished e = ap (λ (w : Walked). front w) (alike _ e refl)
-      by Stepped.Misplaced e = ap (λ (w : Walked). front w) (alike _ e refl)
-      by Stepped.Broken e = ap (λ (w : Walked). front w) (alike _ e refl)
+          ap (number i) (valued valueOf body (cursor place r) _ e)
+          ∙ number-at (walkNumbers (Took a next)) i (omega (arith, nine a next))
+          ∙ ap (bytesLow 8) (beside next k place m (a .value) (b .value) (third r k (take m (drop (place + 5) body))) i h six seven)
+          ∙ sym (number-at (walkNumbers (Took b next)) i (omega (arith, nine b next)))
+          ∙ sym (ap (number i) (valued listedOf body (cursor place r) _ e))
+      by Stepped.Finished e = ap (number i) (alike _ e refl)
+      by Stepped.Misplaced e = ap (number i) (alike _ e refl)
+      by Stepped.Broken e = ap (number i) (alike _ e refl)

@@ -65,7 +65,10 @@ module _ {body : List ℕ} {place : ℕ} {r : Bool} where
     pub within : length d < 2 ^ 64
     within = omega (arith, data-inside body (cursor place r) k (length d) (f .next) (f .taken), c .short)
 
-    said : answer ≡ inBytes (walkNumbers (Took (record { kind = k; place = place; len = length d; value = valueOf r k d }) (f .next)))
+    abbrev field : Field
+    field = record { kind = k; place = place; len = length d; value = valueOf r k d }
+
+    said : answer ≡ inBytes (walkNumbers (Took field (f .next)))
     said =
         let l = taken body (cursor place r) k (length d) (f .next) (f .taken) .len in
         let same : take (length d) (drop (place + 5) body) ≡ d = ap (λ (m : ℕ). take m (drop (place + 5) body)) l ∙ sym (f .content) in
@@ -74,12 +77,12 @@ module _ {body : List ℕ} {place : ℕ} {r : Bool} where
 
     pub told-kind : toldValueKind answer ≡ getD (valueNumbers (valueOf r k d)) 0 0
     told-kind =
-        ap (λ (l : List ℕ). toldValueKind l) said ∙ ap numberLow (at-48 (record { kind = k; place = place; len = length d; value = valueOf r k d }) (f .next))
+        ap (λ (l : List ℕ). toldValueKind l) said ∙ ap numberLow (at-48 field (f .next))
         ∙ number-bytes 8 (getD (valueNumbers (valueOf r k d)) 0 0) ∙ mod-eq-of-lt (small (valueOf r k d))
 
     pub told-first : toldValue answer ≡ getD (valueNumbers (valueOf r k d)) 1 0 % 2 ^ 64
     told-first =
-        ap (λ (l : List ℕ). toldValue l) said ∙ ap numberLow (at-56 (record { kind = k; place = place; len = length d; value = valueOf r k d }) (f .next))
+        ap (λ (l : List ℕ). toldValue l) said ∙ ap numberLow (at-56 field (f .next))
         ∙ number-bytes 8 (getD (valueNumbers (valueOf r k d)) 1 0)
 
     -- by the kind that is told

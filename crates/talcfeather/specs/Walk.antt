@@ -24,7 +24,7 @@ pub record TalcWalk (body : List ℕ) (place : ℕ) (r : Bool) (number : ℕ) (a
   pub is-answer : answer ≡ inBytes (walkNumbers (walkOf body (cursor place r)))
 
 -- ---- What an answer says of a field (document 02, Q-5 and Q-2)
--- the walk takes a field there, of type k and with the data d
+-- at that place the walk takes a field of type k, with the data d
 pub record FieldAt (body : List ℕ) (place : ℕ) (r : Bool) (k : ℕ) (d : List ℕ) : Type 0 where
   pub next : Cursor
   pub taken : stepOf body (cursor place r) ≡ Took k (length d) next
@@ -43,7 +43,7 @@ pub record StampAt (body : List ℕ) (place : ℕ) (r : Bool) (d : List ℕ) : T
   pub field : FieldAt body place r kind d
   pub old : OldStamp r kind d
 
--- the kind of value that an answer tells, and the value: the numbers at 48 and 56
+-- the kind of value that an answer tells, and the first number that the value holds: those at 48 and 56
 abbrev pub toldValueKind : List ℕ → ℕ
 toldValueKind answer = numberLow (take 8 (drop 48 answer))
 

@@ -62,13 +62,10 @@ pub each-from : {A : Type 0} (P : A → Type 0) (l : List A) (d : A) → ((k : �
 each-from P [] d h = tt
 each-from P (a ∷ l) d h = (h 0 (omega arith), each-from P l d (λ k g. h (suc k) (omega arith)))
 
--- a test of each element: what is left decides, once elements that pass are behind
+-- a test of each element, as a loop goes on: of the next one and of those behind it, and of none
 module _ {A : Type 0} (t : A → Bool) (l : List A) (d : A) (i : ℕ) where
-  pub all-next : i < length l → t (getD l i d) ≡ true → allIn t (drop i l) ≡ allIn t (drop (i + 1) l)
-  all-next h e = rw (add-one, drop-cons l i d h, e)
-
-  pub all-stop : i < length l → t (getD l i d) ≡ false → allIn t (drop i l) ≡ false
-  all-stop h e = rw (drop-cons l i d h, e)
+  pub all-on : i < length l → allIn t (drop i l) ≡ (t (getD l i d) && allIn t (drop (i + 1) l))
+  all-on h = rw (add-one, drop-cons l i d h)
 
   pub all-end : length l ≤ i → allIn t (drop i l) ≡ true
   all-end h = rw (drop-of-length-le l {i = i} h)

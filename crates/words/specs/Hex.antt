@@ -5,7 +5,7 @@ use mathlib.Core.List.{List, [], _∷_, map}
 use Prim.Native.Nat.{ℕ, zero, suc, _+_, _*_, _/_, _%_, _^_, _<_}
 use lib.Dec.{ltb, eqb}
 use lib.ListN.{length, getD}
-use Rattle.words.specs.Each.{allIn}
+use Rattle.words.specs.Each.{Each, allIn}
 
 -- 0 to 9, and what stands for the values 10 to 15
 abbrev digitsWith : List ℕ → List ℕ
@@ -30,22 +30,24 @@ hexValue b = cond (ltb (indexIn b lowerDigits) 16) (indexIn b lowerDigits) (inde
 unfoldable pub hexDigit : ℕ → ℕ
 hexDigit v = getD lowerDigits (v % 16) 0
 
--- ---- numbers in digits, the highest first
--- every byte is a digit
+-- every byte is a digit: as a statement, and as a test
+abbrev pub Digits : List ℕ → Type 0
+Digits s = Each (λ b. hexValue b < 16) s
+
 unfoldable pub allDigits : List ℕ → Bool
 allDigits s = allIn (λ b. ltb (hexValue b) 16) s
 
--- what digits come to: each counts 16 to the power of the number of digits behind it
+-- what digits come to, the highest first: each counts 16 to the power of the number of digits behind it. A byte that is no digit counts as 16
 unfoldable pub hexNumber : List ℕ → ℕ
 hexNumber [] = 0
 hexNumber (d ∷ s) = hexValue d * 16 ^ length s + hexNumber s
 
 -- the values of the n lowest digits of x, the highest first
-unfoldable pub digitsOf : ℕ → ℕ → List ℕ
-digitsOf zero x = []
-digitsOf (suc n) x = x / 16 ^ n % 16 ∷ digitsOf n x
+unfoldable pub digitValues : ℕ → ℕ → List ℕ
+digitValues zero x = []
+digitValues (suc n) x = x / 16 ^ n % 16 ∷ digitValues n x
 
 -- s is x in digits of either case, the highest first
 pub record Spells (s : List ℕ) (x : ℕ) : Type 0 where
   pub fits : x < 16 ^ length s
-  pub digits : map hexValue s ≡ digitsOf (length s) x
+  pub values : map hexValue s ≡ digitValues (length s) x

@@ -40,7 +40,7 @@ pub fn digit(v: u8) -> u8
 }
 
 // Whether every byte is a digit.
-pub fn digits(s: &[u8]) -> bool
+pub fn all_digits(s: &[u8]) -> bool
     ensures { λ r. ⌜ r ≡ allDigits (now (s .entry)) ⌝ }
 {
     let mut i: usize = 0;
@@ -53,21 +53,22 @@ pub fn digits(s: &[u8]) -> bool
     true
 }
 
-// A number with one digit more.
-fn grown(n: u32, v: u8) -> u32
+// A number with one digit more behind it.
+fn with_digit(n: u32, v: u8) -> u32
     ensures { λ r. ⌜ r ≡ (16 * n + v) % 2 ^ 32 ⌝ }
 {
     ((16 * (n as u64) + (v as u64)) % 4294967296) as u32
 }
 
-// What digits come to, the highest first: modulo 2^32, so that eight of them are told whole.
+// What digits come to, the highest first: modulo 2^32, so that eight of them are told whole. A byte that is no digit counts
+// as 16.
 pub fn number(s: &[u8]) -> u32
     ensures { λ r. ⌜ r ≡ hexNumber (now (s .entry)) % 2 ^ 32 ⌝ }
 {
     let mut n: u32 = 0;
     let mut i: usize = 0;
     while i < s.len() {
-        n = grown(n, value(s[i]));
+        n = with_digit(n, value(s[i]));
         i += 1;
     }
     n

@@ -8,8 +8,8 @@ use borrow.Author.Needs.{needs}
 use Rattle.fields.proofs.value.value_of.Statement.{statement}
 use Rattle.fields.proofs.value.value_of.Tie as tie
 
-stamp-requires : tie.Need-stamp-requires
-stamp-requires c κs =
+stamped-requires : tie.Need-stamped-requires
+stamped-requires c κs =
     let a = c .before .before .before .args in
     old-exactly (a .in-record) (a .kind) (a .d .now) .0 (sym (c .before .old-stamp .ensures) ∙ c .if1 .taken) .eight
 
@@ -18,7 +18,7 @@ unfolding valueOf
 returns c =
     let a = c .before .before .before .before .args in
     let old : oldStamp (a .in-record) (a .kind) (length (a .d .now)) ≡ true = sym (c .before .before .old-stamp .ensures) ∙ c .before .if1 .taken in
-    rw old (c .stamp .ensures)
+    rw old (c .stamped .ensures)
 
 returns-2 : tie.Need-returns-2
 unfolding valueOf
@@ -28,4 +28,4 @@ returns-2 c =
     rw other (c .listed .ensures)
 
 pub value-of-spec : {M : Type 1} → statement M
-value-of-spec = tie.close (tie.spec (λ c κs. search needs) stamp-requires returns (λ c κs. search needs) returns-2)
+value-of-spec = tie.close (tie.spec (λ c κs. search needs) stamped-requires returns (λ c κs. search needs) returns-2)

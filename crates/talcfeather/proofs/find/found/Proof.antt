@@ -4,7 +4,7 @@ use native.Mathlib.Omega.{arith}
 use Rattle.words.proofs.ByteLaws.{bytes-of}
 use Rattle.body.specs.Find.{findOf}
 use Rattle.talcfeather.specs.Find.{foundOf}
-use Rattle.fields.proofs.UuidValue.{always-uuid, uuid-halves}
+use Rattle.fields.proofs.UuidValue.{always-uuid, uuid-exactly}
 use borrow.Author.Needs.{needs}
 use Rattle.talcfeather.proofs.find.found.Statement.{statement}
 use Rattle.talcfeather.proofs.find.found.Tie as tie
@@ -17,7 +17,7 @@ unfolding foundOf
 returns-2 c =
     let e = c .before .before .before .before .before .before .before in
     let a = e .args in
-    let halves = uuid-halves (a .uuid .now) _ _ (e .pre) (sym (c .before .before .before .before .value-of .ensures) ∙ c .before .before .low .given .1) in
+    let halves = uuid-exactly (a .uuid .now) _ _ .0 (sym (c .before .before .before .before .value-of .ensures) ∙ c .before .before .low .given .1) in
     record {
       bytes = c .find .ensures .1;
       short = e .good .0 .0;
@@ -25,7 +25,7 @@ returns-2 c =
         long = e .pre;
         bytes = bytes-of (a .uuid .now) (λ i. omega (arith, c .before .before .before .before .before .shared-slice-known2 .given i));
       };
-      is-found = c .find .ensures .0 ∙ ap₂ (findOf (a .body .now)) (halves .0) (halves .1);
+      is-found = c .find .ensures .0 ∙ ap₂ (findOf (a .body .now)) (halves .1) (halves .2);
     }
 
 pub found-spec : {M : Type 1} → statement M

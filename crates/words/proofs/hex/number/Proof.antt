@@ -25,7 +25,7 @@ loop-again : tie.Need-loop-again Inv-loop μ-loop
 loop-again c =
     let at = c .before .before .before .before .loop in
     let s = c .before .before .before .before .before .before .args .s .now in
-    (search needs, number-next s (at .i) (at .n) _ _ (search needs) (at .inv .1) (c .before .value .ensures) (c .grown .ensures))
+    (search needs, number-next s (at .i) (at .n) _ _ (search needs) (at .inv .1) (c .before .value .ensures) (c .with-digit .ensures))
 
 returns : tie.Need-returns Inv-loop μ-loop
 returns c =
