@@ -116,8 +116,10 @@ extern "C" {
  *    to 16 KB, and holds all five to 64 KB now.
  * 4: talc_walk() tells where a BADTEXT goes wrong, as its value; before, that
  *    was 0. No answer has another size.
+ * 5: talc_walk() tells eight hex digits in header 04 and 13 as TIME; before,
+ *    they were MISSHAPEN. No answer has another size.
  */
-#define TALC_VERSION 4
+#define TALC_VERSION 5
 
 /* Refusals, and the calls that give them. */
 #define TALC_OK            0  /* not refused */
@@ -297,7 +299,10 @@ uint32_t talc_write(const uint8_t *passphrase, size_t passphrase_len,
  *   UUID       16 bytes: header 01; record 01. Bytes 0 to 7 as a number,
  *              lowest first; bytes 8 to 15 likewise as the second half.
  *   TIME       4 bytes: header 04, 13; record 07, 08, 09, 0a, 0c. Seconds
- *              since 1970-01-01, stored lowest byte first.
+ *              since 1970-01-01, stored lowest byte first. In header 04 and 13
+ *              also 8 bytes: the seconds as eight hex digits of either case, in
+ *              ASCII, highest first, as programs before Password Safe 3.09
+ *              saved them.
  *   NUMBER     header 00, record 13, 17 (2 bytes); record 11, 19 (4 bytes).
  *              The number, stored lowest byte first.
  *   FLAG       1 byte: record 15. 1 if the byte is not zero, else 0.
@@ -309,7 +314,8 @@ uint32_t talc_write(const uint8_t *passphrase, size_t passphrase_len,
  *              0 where it starts with EF BB BF; its length - 1 where only a
  *              final 00 offends. Where several apply, the smallest. It is less
  *              than the length, always.
- *   MISSHAPEN  a type of UUID to FLAG, neither empty nor of its size
+ *   MISSHAPEN  a type of UUID to FLAG, neither empty nor of its size; header
+ *              04 and 13 also with 8 bytes that are not all hex digits
  *   OPAQUE     everything else
  */
 uint32_t talc_walk(const uint8_t *body, size_t body_len,

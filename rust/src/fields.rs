@@ -31,6 +31,18 @@ impl Cursor {
 /// assert_eq!(&field.data(&title)[..2], b"La");
 /// # Ok::<(), talcfeather::Refusal>(())
 /// ```
+///
+/// The time of the last save, as programs before Password Safe 3.09 saved it:
+///
+/// ```
+/// use talcfeather::{append, walk, Cursor, Value};
+///
+/// let mut header = [0; 16];
+/// append(&mut header, 0, 0x04, b"4A5b6c7D", &[0; 3])?;
+/// let (field, _) = walk(&header, Cursor::START)?.expect("a field");
+/// assert_eq!(field.value, Value::Time(0x4a5b_6c7d));
+/// # Ok::<(), talcfeather::Refusal>(())
+/// ```
 #[derive(Clone, Copy, Debug, PartialEq, Eq)]
 #[non_exhaustive]
 pub enum Value {
@@ -40,7 +52,8 @@ pub enum Value {
     End,
     /// 16 bytes: two halves, each lowest byte first.
     Uuid(u64, u64),
-    /// Seconds since 1970-01-01.
+    /// Seconds since 1970-01-01: 4 bytes; in types 04 and 13 of the header also eight hex digits of
+    /// either case, highest first, as programs before Password Safe 3.09 saved them.
     Time(u32),
     /// A number of 2 or 4 bytes.
     Number(u32),
@@ -52,7 +65,8 @@ pub enum Value {
     /// start that is well-formed UTF-8; 0 where it starts with a byte order mark; its length less 1
     /// where only a final 00 offends. Where several apply, the smallest. Less than the length, always.
     BadText(usize),
-    /// A type of fixed size, neither empty nor of its size.
+    /// A type of fixed size, neither empty nor of its size; types 04 and 13 of the header also with 8
+    /// bytes that are not all hex digits.
     Misshapen,
     /// Everything else.
     Opaque,

@@ -193,14 +193,17 @@ fn walks() {
 #[test]
 fn whole_walks() {
     let (mut random, mut met) = (Random(32), Met::default());
-    let mut wrong = 0;
+    let (mut wrong, mut stamps) = (0, [0, 0]);
     while met.cases() < 20_000 {
         let body = any(&mut random);
         let mut at = Cursor { place: 0, in_record: false };
         loop {
             let case = Walk { body: &body, at };
             let ours = case.ours(&mut random);
-            wrong += u32::from(ours.answer[48] == 7 && ours.answer[56] > 0);
+            let [length, value] = [40, 48].map(|offset| ours.answer[offset]);
+            wrong += u32::from(value == 7 && ours.answer[56] > 0);
+            stamps[0] += u32::from(length == 8 && value == 3);
+            stamps[1] += u32::from(length == 8 && value == 8 && !at.in_record);
             met.same(ours, case.theirs(), at);
             let Ok(Some((_, next))) = peer::fields::walk(&body, at) else { break };
             at = next;
@@ -208,6 +211,7 @@ fn whole_walks() {
     }
     met.each_of(&[0, 14], 50);
     assert!(wrong > 300, "a text went wrong behind its start {wrong} times");
+    assert!(stamps.iter().all(|met| *met > 50), "eight digits, and others: {stamps:?} times");
 }
 
 fn append_case(random: &mut Random, met: &mut Met) {

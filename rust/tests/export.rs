@@ -253,6 +253,11 @@ fn misshapen_expiries() {
     for length in (1..=20).filter(|length| *length != 4) {
         refused(random, &[part(EXPIRY, &vec![0; length])], EXPIRY);
         refused(random, &[part(EXPIRY, &vec![1; length])], EXPIRY);
+        refused(random, &[part(EXPIRY, &vec![b'1'; length])], EXPIRY);
+    }
+    // Eight hex digits are a time in the header alone.
+    for digits in [b"4A5B6C7D", b"ffffffff", b"00000000"] {
+        refused(random, &[part(EXPIRY, digits)], EXPIRY);
     }
 }
 

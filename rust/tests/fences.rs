@@ -79,6 +79,24 @@ fn texts() {
     }
 }
 
+/// The body is one time of the header: of eight digits, of four bytes, and of lengths near these.
+#[test]
+fn stamps() {
+    let at = Cursor { place: 0, in_record: false };
+    for length in 0..=11 {
+        for byte in [b'1', b'g'] {
+            let body = field(&mut Random(5), &part(0x04, &vec![byte; length]));
+            assert_eq!(body.len(), 16);
+            for before in [true, false] {
+                let ours = walk(&body, at, before);
+                let time = length == 4 || (length == 8 && byte == b'1');
+                assert_eq!(ours.answer[48] == 3, time, "{length} bytes");
+                assert_eq!(ours, Walk { body: &body, at }.theirs());
+            }
+        }
+    }
+}
+
 #[test]
 fn records() {
     let (random, mut met) = (&mut Random(3), Met::default());

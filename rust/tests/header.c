@@ -87,6 +87,29 @@ static void texts(void)
     }
 }
 
+/*
+ * Times of the header: four bytes, and eight hex digits; eight bytes that are not all digits; and the
+ * digits as a record's time. For each, whether it is a time, which, and whether it is misshapen.
+ */
+static void stamps(void)
+{
+    static const uint8_t fields[5][16] = {
+        {4, 0, 0, 0, 0x04, 0x7d, 0x6c, 0x5b, 0x4a},
+        {8, 0, 0, 0, 0x04, '4', 'A', '5', 'B', '6', 'C', '7', 'D'},
+        {8, 0, 0, 0, 0x13, 'f', 'e', 'd', 'c', 'b', 'a', '9', '8'},
+        {8, 0, 0, 0, 0x13, '4', 'A', '5', 'B', '6', 'C', '7', 'G'},
+        {8, 0, 0, 0, 0x07, '4', 'A', '5', 'B', '6', 'C', '7', 'D'},
+    };
+    uint8_t answer[TALC_WALK_ANSWER];
+    for (int i = 0; i < 5; i++) {
+        memset(answer, 0xEE, sizeof answer);
+        talc_walk(fields[i], sizeof fields[i], 0, fields[i][4] == 0x07, answer);
+        printf("%d ", talc_number(answer + 48) == TALC_VALUE_TIME);
+        printf("%u ", (unsigned)talc_number(answer + 56));
+        printf("%d ", talc_number(answer + 48) == TALC_VALUE_MISSHAPEN);
+    }
+}
+
 /* The same record twice; then the second with another UUID. */
 static void doubles(void)
 {
@@ -153,6 +176,7 @@ int main(void)
     printf(" %u ", (unsigned)talc_number(replay));
     finds();
     texts();
+    stamps();
     doubles();
     tables();
     return left != 0 || talc_number(read) != 0;

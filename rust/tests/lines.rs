@@ -249,11 +249,13 @@ fn append_by_its_order() {
 fn values_of_every_type() {
     let random = &mut Random(13);
     for kind in 0..=0xff {
-        for length in [0, 1, 2, 3, 4, 5, 8, 15, 16, 17] {
+        let lengths = [0, 1, 2, 3, 4, 5, 7, 8, 9, 15, 16, 17];
+        // The second is a hex digit.
+        for (length, byte) in lengths.into_iter().flat_map(|length| [(length, 1), (length, b'1')]) {
             let mut body = vec![0; size(length)];
-            let ones = vec![1; length];
+            let same = vec![byte; length];
             let fill = vec![0; fill_needed(length)];
-            let data = if kind == END { &[][..] } else { &ones };
+            let data = if kind == END { &[][..] } else { &same };
             let fill = if kind == END { &[0; 11][..] } else { &fill };
             append(&mut body, 0, kind, data, fill).unwrap();
             for in_record in [false, true] {

@@ -50,6 +50,46 @@ fn fields_hides_passwords() {
     assert!(ended.out.contains("Time       2030-03-17 17:46:40 UTC"));
 }
 
+/// The times of the header: four bytes, eight hex digits, and eight bytes that are not all digits.
+#[test]
+fn fields_shows_old_stamps() {
+    let folder = Folder::new("stamps");
+    let stamps: [(&[u8], &str); 5] = [
+        (&1_247_505_533u32.to_le_bytes(), "4  Time       2009-07-13 17:18:53 UTC"),
+        (b"4A5B6C7D", "8  Time       2009-07-13 17:18:53 UTC"),
+        (b"4a5b6c7d", "8  Time       2009-07-13 17:18:53 UTC"),
+        (b"ffffFFFF", "8  Time       2106-02-07 06:28:15 UTC"),
+        (b"4A5B6C7G", "8  Misshapen"),
+    ];
+    for (stamp, shown) in stamps {
+        let header = [part(0x00, &[0x0e, 0x03]), part(0x04, stamp), part(0x13, stamp)];
+        let body = join(&mut Random(1), &[&header[..], &[part(END, &[])]].concat());
+        let file = folder.put("a.psafe3", &safe_around(&body, 2048));
+        let ended = talc(&["fields", path(&file), "--passphrase-stdin"], PASSPHRASE);
+        assert_eq!(ended.status, 0, "{}", ended.err);
+        let lines: Vec<&str> = ended.out.lines().collect();
+        let saved = format!("      16  04  Timestamp of last save             {shown}");
+        let changed = format!("      32  13  Last master password change        {shown}");
+        assert_eq!(lines[2..4], [saved, changed]);
+    }
+}
+
+/// Eight hex digits are no time in a record.
+#[test]
+fn expiries_of_digits_are_not_shown() {
+    let folder = Folder::new("digits");
+    let login = [part(0x01, UUID), part(0x03, b"Lathe"), part(0x06, b"x"), part(0x0a, b"4A5B6C7D")];
+    let [version, end] = [part(0x00, &[0x0e, 0x03]), part(END, &[])];
+    let parts = [&[version, end.clone()][..], &login, &[end]].concat();
+    let file = folder.put("a.psafe3", &safe_around(&join(&mut Random(1), &parts), 2048));
+    let show = |command| talc(&[command, path(&file), "--passphrase-stdin"], PASSPHRASE);
+    let (list, fields) = (show("list"), show("fields"));
+    assert_eq!((list.status, list.out.as_str()), (0, "Lathe\t\t\t?\n"), "{}", list.err);
+    assert_eq!(fields.status, 0, "{}", fields.err);
+    assert!(fields.out.contains("Password Expiry Time               8  Misshapen\n"));
+    assert!(!fields.out.contains("UTC"), "{}", fields.out);
+}
+
 #[test]
 fn find() {
     let folder = Folder::new("find");

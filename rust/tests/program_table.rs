@@ -141,6 +141,10 @@ fn unfit() -> Vec<(Part, &'static str)> {
         ),
         (part(EXPIRY, &[1; 3]), "\"Lathe\": its expiry has 3 bytes, not 4: set the expiry again"),
         (part(EXPIRY, &[1; 8]), "\"Lathe\": its expiry has 8 bytes, not 4: set the expiry again"),
+        (
+            part(EXPIRY, b"4A5B6C7D"),
+            "\"Lathe\": its expiry has 8 bytes, not 4: set the expiry again",
+        ),
     ]
 }
 

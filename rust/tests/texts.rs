@@ -4,9 +4,8 @@
 mod common;
 
 use common::bodies::data;
-use common::calls::Walk;
-use common::tables::numbers;
-use peer::fields::{fill_needed, stored, Cursor};
+use common::walks::told;
+use peer::fields::fill_needed;
 use peer::random::Random;
 use std::ops::RangeInclusive;
 
@@ -20,17 +19,6 @@ const RECORD: [u8; 18] = [
 const TEXT: u64 = 6;
 const BAD_TEXT: u64 = 7;
 const MARK: &[u8] = b"\xef\xbb\xbf";
-
-/// Kind, value and second half of the library's answer, which is also the peer's, at any place of a
-/// body.
-fn told(random: &mut Random, kind: u8, in_record: bool, data: &[u8], fill: &[u8]) -> [u64; 3] {
-    let [before, after] = [0, 1].map(|_| 16 * random.below(3));
-    let body = [random.bytes(before), stored(kind, data, fill), random.bytes(after)].concat();
-    let case = Walk { body: &body, at: Cursor { place: before, in_record } };
-    let ours = case.ours(random);
-    assert_eq!(ours, case.theirs(), "type {kind} of {} bytes", data.len());
-    numbers(&ours)[6..].try_into().unwrap()
-}
 
 fn expected(wrong: Option<usize>) -> [u64; 3] {
     wrong.map_or([TEXT, 0, 0], |at| [BAD_TEXT, at as u64, 0])

@@ -58,6 +58,8 @@ pub fn stored(kind: u8, data: &[u8], fill: &[u8]) -> Vec<u8> {
 enum Shape {
     Uuid,
     Time,
+    /// A time of the header.
+    Stamp,
     Number(usize),
     Flag,
     Text,
@@ -67,7 +69,7 @@ enum Shape {
 fn shape(kind: u8, in_record: bool) -> Shape {
     match (in_record, kind) {
         (_, 0x01) => Shape::Uuid,
-        (false, 0x04 | 0x13) => Shape::Time,
+        (false, 0x04 | 0x13) => Shape::Stamp,
         (true, 0x07..=0x0a | 0x0c) => Shape::Time,
         (false, 0x00) => Shape::Number(2),
         (true, 0x13 | 0x17) => Shape::Number(2),
@@ -83,6 +85,12 @@ fn number(data: &[u8]) -> u64 {
     data.iter().rev().fold(0, |n, b| n << 8 | u64::from(*b))
 }
 
+/// A number in hex, highest digit first. `from_str_radix` takes a sign too, which is no digit.
+fn of_digits(data: &[u8]) -> Option<u32> {
+    let text = std::str::from_utf8(data).ok()?;
+    text.chars().all(|c| c.is_ascii_hexdigit()).then(|| u32::from_str_radix(text, 16).ok())?
+}
+
 fn value(kind: u8, in_record: bool, data: &[u8]) -> Value {
     if kind == END {
         return Value::End;
@@ -92,7 +100,8 @@ fn value(kind: u8, in_record: bool, data: &[u8]) -> Value {
     }
     match (shape(kind, in_record), data.len()) {
         (Shape::Uuid, 16) => Value::Uuid(number(&data[..8]), number(&data[8..])),
-        (Shape::Time, 4) => Value::Time(number(data) as u32),
+        (Shape::Time | Shape::Stamp, 4) => Value::Time(number(data) as u32),
+        (Shape::Stamp, 8) => of_digits(data).map_or(Value::Misshapen, Value::Time),
         (Shape::Number(n), m) if n == m => Value::Number(number(data) as u32),
         (Shape::Flag, 1) => Value::Flag(data[0] != 0),
         (Shape::Text, _) => goes_wrong(data).map_or(Value::Text, Value::BadText),

@@ -2,6 +2,7 @@
 
 use peer::body::{find, judge};
 use peer::fields::{append, size, walk, Cursor, Value};
+use peer::random::Random;
 use peer::replay::{Accepted, Standing};
 use peer::safe::{read, write};
 use peer::saved::{files, listing_of};
@@ -45,6 +46,13 @@ fn a_huge_field() {
     assert_eq!(judge(&body), Err(9));
 }
 
+/// The value of a field whose data have 11 bytes at most.
+fn value(kind: u8, in_record: bool, data: &[u8]) -> Value {
+    let mut buffer = vec![0; 16];
+    append(&mut buffer, 0, kind, data, &vec![0; 11 - data.len()]).unwrap();
+    walk(&buffer, Cursor { place: 0, in_record }).unwrap().unwrap().0.value
+}
+
 #[test]
 fn values_of_a_record() {
     let kinds: [(u8, &[u8], Value); 8] = [
@@ -57,11 +65,65 @@ fn values_of_a_record() {
         (0x1b, &[1], Value::Opaque),
         (0x1b, &[], Value::Empty),
     ];
-    for (kind, data, value) in kinds {
-        let mut buffer = vec![0; 16];
-        append(&mut buffer, 0, kind, data, &vec![0; 11 - data.len()]).unwrap();
-        let (field, _) = walk(&buffer, Cursor { place: 0, in_record: true }).unwrap().unwrap();
-        assert_eq!(field.value, value);
+    for (kind, data, expected) in kinds {
+        assert_eq!(value(kind, true, data), expected);
+    }
+}
+
+/// Each sentence of the request by hand: eight digits of either case, eight bytes that are not all
+/// digits, and the times of a record, which stay at 4 bytes.
+#[test]
+fn times_of_the_header() {
+    let cases: [(&[u8], Value); 18] = [
+        (b"", Value::Empty),
+        (b"4A5B", Value::Time(0x4235_4134)),
+        (b"4A5B6C7D", Value::Time(0x4a5b_6c7d)),
+        (b"4a5b6c7d", Value::Time(0x4a5b_6c7d)),
+        (b"0123456f", Value::Time(0x0123_456f)),
+        (b"fEDCBA98", Value::Time(0xfedc_ba98)),
+        (b"00000000", Value::Time(0)),
+        (b"FFFFffff", Value::Time(u32::MAX)),
+        (b"4A5B6C7", Value::Misshapen),
+        (b"4A5B6C7D0", Value::Misshapen),
+        (b"4A5B6C7G", Value::Misshapen),
+        (b"g4A5B6C7", Value::Misshapen),
+        (b"+4A5B6C7", Value::Misshapen),
+        (b"-4A5B6C7", Value::Misshapen),
+        (b" 4A5B6C7", Value::Misshapen),
+        (b"0x4A5B6C", Value::Misshapen),
+        (b"4A5B6C7\0", Value::Misshapen),
+        (b"4A5B6C\xff7", Value::Misshapen),
+    ];
+    for (data, expected) in cases {
+        assert_eq!([0x04, 0x13].map(|kind| value(kind, false, data)), [expected; 2], "{data:x?}");
+    }
+    for kind in [0x07, 0x08, 0x09, 0x0a, 0x0c] {
+        assert_eq!(value(kind, true, b"4A5B6C7D"), Value::Misshapen);
+        assert_eq!(value(kind, true, b"4A5B"), Value::Time(0x4235_4134));
+    }
+    assert_eq!(value(0x04, true, b"4A5B6C7D"), Value::Text);
+    assert_eq!(value(0x13, true, b"4A5B6C7D"), Value::Misshapen);
+}
+
+/// The same by a second reading: what a number is printed as, in either case, is that time; and of
+/// all bytes at each place 22 are digits.
+#[test]
+fn every_digit_of_a_time() {
+    let random = &mut Random(1);
+    for _ in 0..10_000 {
+        let seconds = random.number() as u32;
+        for printed in [format!("{seconds:08x}"), format!("{seconds:08X}")] {
+            assert_eq!(value(0x04, false, printed.as_bytes()), Value::Time(seconds));
+        }
+    }
+    for place in 0..8 {
+        let with = |byte: &u8| {
+            let mut data = *b"00000000";
+            data[place] = *byte;
+            value(0x04, false, &data) != Value::Misshapen
+        };
+        let digits: Vec<u8> = (0..=255).filter(with).collect();
+        assert_eq!(digits, b"0123456789ABCDEFabcdef");
     }
 }
 

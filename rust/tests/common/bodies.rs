@@ -56,6 +56,29 @@ pub fn data(random: &mut Random) -> Vec<u8> {
     }
 }
 
+pub const HEX_DIGITS: &[u8; 22] = b"0123456789abcdefABCDEF";
+
+/// What is no digit and stands beside one in ASCII, or goes with numbers.
+pub const NO_DIGITS: &[u8; 16] = b"/:@G`g+-xX _.\0\n\xb4";
+
+/// That many hex digits, at times with one mistake.
+pub fn digits(random: &mut Random, length: usize) -> Vec<u8> {
+    let mut bytes: Vec<u8> = (0..length).map(|_| random.pick(HEX_DIGITS)).collect();
+    if length > 0 && random.one_in(3) {
+        let [near, any] = [random.pick(NO_DIGITS), random.number() as u8];
+        bytes[random.below(length)] = random.pick(&[near, any]);
+    }
+    bytes
+}
+
+/// Data for a field of that type: where it is a time, in header or record, often eight digits.
+fn data_for(random: &mut Random, kind: u8) -> Vec<u8> {
+    match kind {
+        0x04 | 0x07 | 0x0a | 0x0c | 0x13 if random.one_in(2) => digits(random, 8),
+        _ => data(random),
+    }
+}
+
 fn nonempty(random: &mut Random) -> Vec<u8> {
     let mut data = data(random);
     if data.is_empty() {
@@ -74,7 +97,7 @@ fn header(random: &mut Random) -> Vec<Part> {
     let mut parts = vec![part(0x00, &[random.number() as u8, 0x03])];
     for kind in (0x01..=0x0b).chain([0x0f, 0x10, 0x13]) {
         if random.one_in(5) {
-            parts.push(Part { kind, data: data(random) });
+            parts.push(Part { kind, data: data_for(random, kind) });
         }
     }
     for _ in 0..random.below(3) {
@@ -98,7 +121,7 @@ pub fn record(random: &mut Random, uuid: &[u8; 16]) -> Vec<Part> {
             0x1a, 0x1b, 0x20, 0x21, 0xdf, 0xfe,
         ]);
         let at = random.below(parts.len() + 1);
-        parts.insert(at, Part { kind, data: data(random) });
+        parts.insert(at, Part { kind, data: data_for(random, kind) });
     }
     if random.one_in(2) {
         parts.rotate_left(1);

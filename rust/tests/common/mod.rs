@@ -10,3 +10,4 @@ pub mod process;
 pub mod tables;
 pub mod traces;
 pub mod uuids;
+pub mod walks;
