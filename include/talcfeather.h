@@ -299,10 +299,9 @@ uint32_t talc_write(const uint8_t *passphrase, size_t passphrase_len,
  *   UUID       16 bytes: header 01; record 01. Bytes 0 to 7 as a number,
  *              lowest first; bytes 8 to 15 likewise as the second half.
  *   TIME       4 bytes: header 04, 13; record 07, 08, 09, 0a, 0c. Seconds
- *              since 1970-01-01, stored lowest byte first. In header 04 and 13
- *              also 8 bytes: the seconds as eight hex digits of either case, in
- *              ASCII, highest first, as programs before Password Safe 3.09
- *              saved them.
+ *              since 1970-01-01, stored lowest byte first. Header 04 and 13
+ *              also 8 bytes: the seconds in ASCII hex digits of either case,
+ *              highest first, as Password Safe stored them before 3.09.
  *   NUMBER     header 00, record 13, 17 (2 bytes); record 11, 19 (4 bytes).
  *              The number, stored lowest byte first.
  *   FLAG       1 byte: record 15. 1 if the byte is not zero, else 0.

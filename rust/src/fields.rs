@@ -32,7 +32,7 @@ impl Cursor {
 /// # Ok::<(), talcfeather::Refusal>(())
 /// ```
 ///
-/// The time of the last save, as programs before Password Safe 3.09 saved it:
+/// The time of the last save, as Password Safe stored it before 3.09:
 ///
 /// ```
 /// use talcfeather::{append, walk, Cursor, Value};
@@ -53,7 +53,7 @@ pub enum Value {
     /// 16 bytes: two halves, each lowest byte first.
     Uuid(u64, u64),
     /// Seconds since 1970-01-01: 4 bytes; in types 04 and 13 of the header also eight hex digits of
-    /// either case, highest first, as programs before Password Safe 3.09 saved them.
+    /// either case, highest first, as Password Safe stored them before 3.09.
     Time(u32),
     /// A number of 2 or 4 bytes.
     Number(u32),

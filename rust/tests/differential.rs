@@ -200,10 +200,11 @@ fn whole_walks() {
         loop {
             let case = Walk { body: &body, at };
             let ours = case.ours(&mut random);
-            let [length, value] = [40, 48].map(|offset| ours.answer[offset]);
+            let [kind, length, value] = [24, 40, 48].map(|offset| ours.answer[offset]);
             wrong += u32::from(value == 7 && ours.answer[56] > 0);
-            stamps[0] += u32::from(length == 8 && value == 3);
-            stamps[1] += u32::from(length == 8 && value == 8 && !at.in_record);
+            let stamp = [0x04, 0x13].contains(&kind) && length == 8 && !at.in_record;
+            stamps[0] += u32::from(stamp && value == 3);
+            stamps[1] += u32::from(stamp && value == 8);
             met.same(ours, case.theirs(), at);
             let Ok(Some((_, next))) = peer::fields::walk(&body, at) else { break };
             at = next;

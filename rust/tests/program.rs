@@ -76,7 +76,7 @@ fn fields_shows_old_stamps() {
 
 /// Eight hex digits are no time in a record.
 #[test]
-fn expiries_of_digits_are_not_shown() {
+fn expiries_of_digits_are_no_times() {
     let folder = Folder::new("digits");
     let login = [part(0x01, UUID), part(0x03, b"Lathe"), part(0x06, b"x"), part(0x0a, b"4A5B6C7D")];
     let [version, end] = [part(0x00, &[0x0e, 0x03]), part(END, &[])];

@@ -1,4 +1,4 @@
-//! Times of the header in eight hex digits, as programs before Password Safe 3.09 saved them: which
+//! Times of the header in eight hex digits, as Password Safe stored them before 3.09: which
 //! bytes are digits, what each counts, which types and which lengths. Each with the number that it
 //! is made for, and against the independent implementation.
 
@@ -140,7 +140,7 @@ fn what_is_nearly_digits() {
     }
 }
 
-/// Of all lengths only 4 and 8 are a time; also past what one byte, two and three can count.
+/// Of lengths to 20, and of some past what one byte, two and three can count, only 4 and 8 are a time.
 #[test]
 fn every_length() {
     let random = &mut Random(5);
@@ -204,7 +204,7 @@ const HEADER: &[u8] = b"MMxxtxxxxxxx---xxx-t";
 const RECORD: &[u8] = b"-MxxxxxMMMM-MxxxxMxMxMxMxM--xxxxx";
 
 #[test]
-fn every_other_type_is_as_it_was() {
+fn every_type() {
     let random = &mut Random(8);
     for (kind, in_record) in (0..0xff).flat_map(|kind| [false, true].map(|r| (kind, r))) {
         let sorts = if in_record { RECORD } else { HEADER };
@@ -234,7 +234,7 @@ fn the_other_numbers_of_the_answer() {
         ];
         for (data, last) in cases {
             let fill = random.bytes(fill_needed(data.len()));
-            let answer = answer(random, place, false, kind, data, &fill);
+            let answer = answer(random, place, kind, false, data, &fill);
             let at = place as u64;
             assert_eq!(answer[..5], [1, at + 16, 0, kind.into(), at]);
             assert_eq!(answer[5..], last);

@@ -58,7 +58,7 @@ pub fn data(random: &mut Random) -> Vec<u8> {
 
 pub const HEX_DIGITS: &[u8; 22] = b"0123456789abcdefABCDEF";
 
-/// What is no digit and stands beside one in ASCII, or goes with numbers.
+/// What is no digit: beside one in ASCII, what goes with numbers, and a digit with its highest bit set.
 pub const NO_DIGITS: &[u8; 16] = b"/:@G`g+-xX _.\0\n\xb4";
 
 /// That many hex digits, at times with one mistake.
@@ -71,7 +71,8 @@ pub fn digits(random: &mut Random, length: usize) -> Vec<u8> {
     bytes
 }
 
-/// Data for a field of that type: where it is a time, in header or record, often eight digits.
+/// Data for a field of that type: of the header's times and of three of a record's often eight
+/// digits, in either section.
 fn data_for(random: &mut Random, kind: u8) -> Vec<u8> {
     match kind {
         0x04 | 0x07 | 0x0a | 0x0c | 0x13 if random.one_in(2) => digits(random, 8),

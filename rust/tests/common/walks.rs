@@ -10,8 +10,8 @@ use peer::random::Random;
 pub fn answer(
     random: &mut Random,
     place: usize,
-    in_record: bool,
     kind: u8,
+    in_record: bool,
     data: &[u8],
     fill: &[u8],
 ) -> [u64; 9] {
@@ -26,6 +26,6 @@ pub fn answer(
 /// Kind, value and second half, at any place.
 pub fn told(random: &mut Random, kind: u8, in_record: bool, data: &[u8], fill: &[u8]) -> [u64; 3] {
     let place = 16 * random.below(3);
-    let [.., value, first, second] = answer(random, place, in_record, kind, data, fill);
+    let [.., value, first, second] = answer(random, place, kind, in_record, data, fill);
     [value, first, second]
 }
