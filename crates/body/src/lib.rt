@@ -1,4 +1,6 @@
 // The well-formed body: judging it, and finding a record in it. Both go by the one walk; whether a UUID comes twice is asked of uuids.
+#![tactic(auto)]
+
 use fields::Stepped;
 use uuids::Repeat;
 

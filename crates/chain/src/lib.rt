@@ -1,5 +1,7 @@
 // ECB and CBC over Twofish, in lent memory of any whole number of blocks. A length that is no multiple of 16 is refused:
 // the memory stays, and the count is handed on as it came.
+#![tactic(auto)]
+
 mod beside;
 mod block;
 mod blocks;

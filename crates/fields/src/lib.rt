@@ -1,4 +1,6 @@
 // The fields of a V3 body: the walk from field to field, and append.
+#![tactic(auto)]
+
 pub mod answers;
 mod stamp;
 pub mod store;

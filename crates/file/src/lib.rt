@@ -1,4 +1,6 @@
 // The file by offset, as far as it needs no cipher: its sizes, and the marker.
+#![tactic(auto)]
+
 ghost use Rattle.std.specs.Prelude.{◌≡◌, ◌/◌, length};
 ghost use Rattle.file.specs.Layout.{marker as markerOf, first_marker};
 ghost use Rattle.file.specs.Reading.{bad_length};

@@ -1,4 +1,6 @@
 // The one page login table of a body.
+#![tactic(auto)]
+
 use body::records;
 use body::records::Firsts;
 

@@ -1,4 +1,6 @@
 // The HMAC of a body: over the data bytes of its fields, in order, as far as the walk takes any.
+#![tactic(auto)]
+
 ghost use Rattle.std.specs.Prelude.{◌≡◌};
 ghost use Rattle.sha256.specs.Hmac.{hmac_of};
 ghost use Rattle.sha256.specs.Running.{MacTakes};

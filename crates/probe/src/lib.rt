@@ -1,4 +1,6 @@
 // The layers under the reader at the C boundary, for tests and benchmarks alone: the product does not link them.
+#![tactic(auto)]
+
 ghost use Rattle.std.specs.Prelude.{◌≡◌, ◌<◌, ◌≤◌, length};
 ghost use Rattle.sha256.specs.Sha256.{sha256};
 ghost use Rattle.sha256.specs.Hmac.{hmac_of};

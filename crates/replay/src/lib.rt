@@ -1,4 +1,6 @@
 // Late edits replayed: traces taken into a lent state, and the standing of a login in it.
+#![tactic(auto)]
+
 pub mod answers;
 mod entry;
 mod pass;

@@ -1,4 +1,6 @@
 // The rows of the login table: one laid, and a table of them taken back.
+#![tactic(auto)]
+
 pub mod answers;
 mod column;
 pub mod days;

@@ -1,4 +1,6 @@
 // Password Safe V3 files, read and written whole in lent memory.
+#![tactic(auto)]
+
 mod assemble;
 mod decrypt;
 mod open;

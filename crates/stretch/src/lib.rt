@@ -1,4 +1,6 @@
 // Key stretching: passphrase and salt hashed once, and the result hashed ITER more times.
+#![tactic(auto)]
+
 mod first;
 
 ghost use Rattle.std.specs.Prelude.{◌≡◌};

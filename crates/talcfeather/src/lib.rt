@@ -1,4 +1,6 @@
 // The library at the C boundary. include/talcfeather.h describes each call; the bytes of its answer are those of specs/.
+#![tactic(auto)]
+
 mod append;
 mod find;
 mod judge;

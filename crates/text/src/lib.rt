@@ -1,4 +1,6 @@
 // Text: well-formed UTF-8 with neither a byte order mark at its start nor a 00 at its end; and where one goes wrong.
+#![tactic(auto)]
+
 ghost use Rattle.std.specs.Prelude.{◌≡◌, cond};
 ghost use Rattle.text.specs.Decision.{first_of, after_byte, whole, formed_start, marked_of, before_final_zero, smaller_of, goes_wrong_of};
 

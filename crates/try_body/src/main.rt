@@ -1,4 +1,6 @@
 // Bodies at each side of every line that document 01 draws, judged and searched; each case on a line with its answer.
+#![tactic(auto)]
+
 use body::{Judged, Sought};
 use fields::Appended;
 

@@ -1,4 +1,6 @@
 // The Twofish paper's vectors for keys of 256 bits, and both modes, printed. BACK is what decryption makes of CT.
+#![tactic(auto)]
+
 use twofish::blocks::{decrypt_block, encrypt_block};
 use words::hex::digit;
 

@@ -1,4 +1,6 @@
 // Text, values, the walk and append at each side of every line that document 01 draws; each case on a line with its answer.
+#![tactic(auto)]
+
 ghost use Rattle.std.specs.Prelude.{◌≡◌, length};
 
 use fields::{Appended, Cursor, Value, Walked};

@@ -1,4 +1,6 @@
 // The published vectors of SHA-256 and HMAC-SHA-256, and key stretching; a line each, which an independent program agrees with.
+#![tactic(auto)]
+
 use libc::STDOUT_FILENO;
 use sha256::hash;
 use stretch::Stretcher;

@@ -1,5 +1,7 @@
 // Twofish with a key of 32 bytes, by its paper. The four tables of g are filled once for a key, and lent to each call with
 // the subkeys, so that none is copied in a round.
+#![tactic(auto)]
+
 pub mod beside;
 pub mod blocks;
 pub mod cipher;

@@ -1,4 +1,6 @@
 // Whether a UUID comes twice: the first one, from a place on, that an earlier one is the same as.
+#![tactic(auto)]
+
 use batch::batch;
 use next::{Next, next_uuid};
 
