@@ -1,0 +1,8 @@
+-- `words::rotation::left` meets its contract, by the law of a rotation by shifts.
+use Prim.Native.Nat.{◌%◌}
+use native.Mathlib.Omega.{arith}
+use Rattle.words.proofs.RotationLaws.{left_shifts}
+use Rattle.words.proofs.rotation.left.Goals as goal
+
+pub returns : goal.returns
+returns c = left_shifts 32 (c.args.n % 32) c.args.x (omega arith) c.ranges.x.fits
