@@ -15,14 +15,14 @@ pub use store::{Appended, append};
 pub use value::Value;
 
 // Where the walk stands, and whether it is in a record or still in the header.
-#[derive(Drop)]
+#[derive(Clone, Copy)]
 pub struct Cursor {
     pub place: usize,
     pub in_record: bool,
 }
 
 // A field: its type, the place of its first length byte, the length of its data, and its value.
-#[derive(Drop)]
+#[derive(Clone, Copy)]
 pub struct Field {
     pub kind: u8,
     pub place: usize,
@@ -31,7 +31,7 @@ pub struct Field {
 }
 
 // Misplaced is refusal 11, Broken 14.
-#[derive(Drop)]
+#[derive(Clone, Copy)]
 pub enum Walked {
     Took(Field, Cursor),
     Finished,
@@ -40,7 +40,7 @@ pub enum Walked {
 }
 
 // What the walk finds at a cursor, without the value: the field's type and the length of its data, and the cursor after it.
-#[derive(Drop)]
+#[derive(Clone, Copy)]
 pub enum Stepped {
     Took(u8, usize, Cursor),
     Finished,
