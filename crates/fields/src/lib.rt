@@ -8,7 +8,7 @@ pub mod value;
 
 ghost use Rattle.std.specs.Prelude.{◌≡◌};
 ghost use Rattle.fields.specs.Stored.{room_of, fill_of};
-ghost use Rattle.fields.specs.Step.{step_of, start as start_of, end_with_data, passed as passedOf};
+ghost use Rattle.fields.specs.Step.{step_of, start as start_of, end_with_data, passed as passed_of};
 ghost use Rattle.fields.specs.Walk.{walk_of};
 
 pub use store::{Appended, append};
@@ -83,7 +83,7 @@ pub fn end_with_data(kind: u8, len: usize) -> bool
 
 // The cursor behind a field of this type.
 fn passed(place: usize, in_record: bool, kind: u8) -> Cursor
-    ensures { result ≡ passedOf place in_record kind }
+    ensures { result ≡ passed_of place in_record kind }
 {
     if in_record {
         return Cursor {
