@@ -2,4 +2,4 @@
 use Rattle.sha256.proofs.hash.advanced.Goals as goal
 
 pub returns : goal.returns
-returns c = c.wrapping_add_u64.ensures
+returns c = c.wrapping_add_u64.ensures.value

@@ -5,9 +5,8 @@ use Rattle.sha256.proofs.Pieces.{finishes}
 use Rattle.sha256.proofs.hash.closed.Goals as goal
 
 pub returns : goal.returns
-returns c =
-(
-      omega arith,
-      λ m e. finishes m c.args.s.now e c.requires c.advanced-len.ensures c.fill.ensures
-          (c.compress-w.ensures ∙ ap (compress_of _) c.block.ensures),
-    )
+returns c = (
+  omega arith,
+  λ m e. finishes m c.args.s.now e c.requires c.advanced-len.ensures c.fill.ensures
+      (c.compress-w.ensures ∙ ap (compress_of _) c.block.ensures),
+)

@@ -6,4 +6,4 @@ pub slice_bounds-take_in-end : goal.slice_bounds-take_in-end
 slice_bounds-take_in-end c = marks c.args.st.len
 
 pub returns : goal.returns
-returns c = ended m c.bits-l.result e c.bits-l.ensures c.take_in-a.ensures c.take_in-b.ensures
+returns c m e = ended m c.bits-l.result e c.bits-l.ensures c.take_in-a.ensures c.take_in-b.ensures

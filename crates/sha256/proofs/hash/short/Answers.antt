@@ -3,5 +3,5 @@ use Rattle.sha256.proofs.Pieces.{within}
 use Rattle.sha256.proofs.hash.short.Goals as goal
 
 pub returns : goal.returns
-returns c =
+returns c m e =
     within m c.args.s.now e c.requires c.advanced-len.ensures c.fill.ensures

@@ -16,7 +16,7 @@ closed-a-requires c =
     rw (length-take-le k s.s.now (omega arith)) (omega arith)
 
 pub returns : goal.returns
-returns c =
+returns c m e =
     let s = c.args in
     let d = s.s.now in
     let k = 64 - s.st.len % 64 in
