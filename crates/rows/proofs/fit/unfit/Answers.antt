@@ -13,13 +13,7 @@ use Rattle.rows.specs.Fit.{is_bad_text, unfit}
 use Rattle.rows.specs.Plain.{is_plain}
 use Rattle.rows.proofs.Zero.{zero_inside}
 use Rattle.rows.proofs.Sevenbit.{plain_zero, plain_fine}
-use borrow.Author.Rules.{rules}
-use Rattle.rows.proofs.fit.unfit.Statement.{statement}
-use Rattle.rows.proofs.fit.unfit.Tie as tie
-
-returns : tie.Need-returns
-unfolding unfit
-returns c = rw (lt-ltb _ _ c.if1.true)
+use Rattle.rows.proofs.fit.unfit.Goals as goal
 
 plain_fits : (k n : ℕ) (d : List ℕ) → length d ≤ n → (p : Bool) → p ≡ is_plain d → p ≡ true → false ≡ unfit k n d
 unfolding unfit
@@ -34,16 +28,15 @@ module _ (k n : ℕ) (d : List ℕ) (h : length d ≤ n) (v : Value) (b : Bool) 
   unfolding unfit
   no-bad z t i = rw (le-ltb n (length d) h, ← e, ← f, t, i) (sym (zero_inside d))
 
-returns-2 : tie.Need-returns-2
-returns-2 c = plain_fits _ _ _ c.before.before.if1.false _ c.before.plain.ensures c.if2.true
+pub returns-then-room-d : goal.returns-then-room-d
+unfolding unfit
+returns-then-room-d c = rw (lt-ltb _ _ c.if-room-d.true)
 
-returns-3 : tie.Need-returns-3
-returns-3 c = is-bad _ _ _ c.before.before.before.before.before.if1.false _ _ c.before.before.value_of_lem.ensures c.before.is-bad-text.ensures c.if3.true
+pub returns-then-plain : goal.returns-then-plain
+returns-then-plain c = plain_fits _ _ _ c.if-room-d.false _ c.plain.ensures c.if-plain.true
 
-returns-4 : tie.Need-returns-4
-returns-4 c = no-bad _ _ _ c.before.before.before.before.before.before.if1.false _ _ c.before.before.before.value_of_lem.ensures c.before.before.is-bad-text.ensures _ c.before.if3.false c.before-zero.ensures.0
+pub returns-then-is_bad_text : goal.returns-then-is_bad_text
+returns-then-is_bad_text c = is-bad _ _ _ c.if-room-d.false _ _ c.value_of.ensures c.is_bad_text.ensures c.if-is_bad_text.true
 
-pub unfit_spec : {M : Type 1} → statement M
-unfit_spec =
-    tie.close
-    (tie.spec returns (λ c κs. search rules) returns-2 (λ c κs. search rules) (λ c κs. search rules) returns-3 (λ c κs. search rules) returns-4)
+pub returns : goal.returns
+returns c = no-bad _ _ _ c.if-room-d.false _ _ c.value_of.ensures c.is_bad_text.ensures _ c.if-is_bad_text.false c.before_zero.ensures.0
