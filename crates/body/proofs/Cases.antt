@@ -20,7 +20,6 @@ use Rattle.body.specs.Find.{is_uuid, first_with, visited_in, find_of}
 use Rattle.body.specs.declared.Judged.{Judged}
 use Rattle.body.specs.declared.Judged.TheVariants.{Counts, NotWellFormed}
 use Rattle.body.specs.declared.Sought.{Sought}
-use Rattle.body.specs.declared.Sought.TheVariants as Sought
 use Rattle.body.specs.declared.Found.{Found}
 use Rattle.body.proofs.Decided.{decides}
 

@@ -9,7 +9,6 @@ use borrow.Author.Tests.{eqb-true, eq-eqb}
 use Rattle.words.specs.Numbers.{number_low}
 use Rattle.fields.specs.Value.{value_of}
 use Rattle.fields.specs.declared.value.Value.{Value}
-use Rattle.fields.specs.declared.value.Value.TheVariants as Value
 use Rattle.fields.proofs.UuidValue.{uuid_exactly, Another, always_uuid}
 use Rattle.body.specs.Find.{is_uuid}
 

@@ -15,11 +15,8 @@ use Rattle.fields.specs.Walk.{walk_by, walk_of}
 use Rattle.fields.specs.Append.{append_of, buffer_after}
 use Rattle.fields.specs.declared.Cursor.{Cursor}
 use Rattle.fields.specs.declared.Walked.{Walked}
-use Rattle.fields.specs.declared.Walked.TheVariants as Walked
 use Rattle.fields.specs.declared.store.Appended.{Appended}
-use Rattle.fields.specs.declared.store.Appended.TheVariants as Appended
 use Rattle.fields.specs.declared.value.Value.{Value}
-use Rattle.fields.specs.declared.value.Value.TheVariants as Value
 
 abbrev cursor : ℕ → Bool → Cursor
 cursor p r = record { place = p; in_record = r }

@@ -6,7 +6,6 @@ use native.Mathlib.Omega.{arith}
 use lib.Dec.{T, eqb, ltb, eqb→eq}
 use borrow.Author.Tests.{lt-ltb}
 use Rattle.fields.specs.declared.value.Shape.{Shape}
-use Rattle.fields.specs.declared.value.Shape.TheVariants as Shape
 use Rattle.fields.specs.Value.{header_shape, record_shape}
 use Rattle.words.proofs.Every.{every}
 

@@ -12,7 +12,6 @@ use borrow.Author.Tests.{eqb-true}
 use Rattle.words.specs.Hex.{hex_digit, Digits, all_digits, hex_number, digit_values, Spells}
 use Rattle.words.proofs.HexNumbers.{digits_fit, digits_exactly, spells_exactly, digits_long, spelled_in}
 use Rattle.fields.specs.declared.value.Value.{Value}
-use Rattle.fields.specs.declared.value.Value.TheVariants as Value
 use Rattle.fields.specs.Value.{header_shape, listed_of, old_stamp, stamp_of, value_of}
 use Rattle.fields.specs.Stamp.{OldStamp}
 

@@ -17,9 +17,7 @@ use Rattle.text.specs.declared.Wrong.{Wrong}
 use Rattle.text.specs.declared.Wrong.TheVariants.{Nowhere, At}
 use Rattle.text.proofs.GoesWrong.{nowhere_exactly, number_exactly, number_less}
 use Rattle.fields.specs.declared.value.Shape.{Shape}
-use Rattle.fields.specs.declared.value.Shape.TheVariants as Shape
 use Rattle.fields.specs.declared.value.Value.{Value}
-use Rattle.fields.specs.declared.value.Value.TheVariants as Value
 use Rattle.fields.specs.Value.{header_shape, record_shape, textual, shaped_of, value_of}
 use Rattle.fields.specs.Stamp.{OldStamp}
 use Rattle.fields.proofs.Stamps.{as_stamp, as_listed}

@@ -13,7 +13,6 @@ use borrow.Author.Tests.{eqb-true}
 use Rattle.words.specs.Numbers.{number_low}
 use Rattle.fields.specs.Value.{value_of, record_shape}
 use Rattle.fields.specs.declared.value.Value.{Value}
-use Rattle.fields.specs.declared.value.Value.TheVariants as Value
 use Rattle.fields.specs.contracts.value.Value as value
 
 pub uuid_exactly : (u : List ℕ) (a b : ℕ)

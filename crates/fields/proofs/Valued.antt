@@ -8,7 +8,6 @@ use Rattle.fields.specs.Walk.{ValueFunction, field_by, with_value, walk_by}
 use Rattle.fields.specs.declared.Cursor.{Cursor}
 use Rattle.fields.specs.declared.Field.{Field}
 use Rattle.fields.specs.declared.Stepped.{Stepped}
-use Rattle.fields.specs.declared.Stepped.TheVariants as Stepped
 use Rattle.fields.specs.declared.Walked.{Walked}
 use Rattle.fields.specs.declared.Walked.TheVariants.{Took, Finished, Misplaced, Broken}
 

@@ -7,9 +7,7 @@ use Rattle.text.specs.Decision.{goes_wrong_of}
 use Rattle.text.specs.declared.Wrong.{Wrong}
 use Rattle.text.specs.declared.Wrong.TheVariants.{Nowhere, At}
 use Rattle.fields.specs.declared.value.Shape.{Shape}
-use Rattle.fields.specs.declared.value.Shape.TheVariants as Shape
 use Rattle.fields.specs.declared.value.Value.{Value}
-use Rattle.fields.specs.declared.value.Value.TheVariants as Value
 
 -- the types of each value: in the header, and in a record
 abbrev pub header_types : Shape → List ℕ

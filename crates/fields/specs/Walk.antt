@@ -5,7 +5,6 @@ use Rattle.fields.specs.Value.{value_of, value_numbers}
 use Rattle.fields.specs.declared.Cursor.{Cursor}
 use Rattle.fields.specs.declared.Field.{Field}
 use Rattle.fields.specs.declared.Stepped.{Stepped}
-use Rattle.fields.specs.declared.Stepped.TheVariants as Stepped
 use Rattle.fields.specs.declared.value.Value.{Value}
 use Rattle.fields.specs.declared.Walked.{Walked}
 use Rattle.fields.specs.declared.Walked.TheVariants.{Took, Finished, Misplaced, Broken}

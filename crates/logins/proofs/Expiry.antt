@@ -13,7 +13,6 @@ use Rattle.words.proofs.NumberLaws.{number_fits}
 use Rattle.fields.specs.Stored.{Stored}
 use Rattle.fields.specs.Value.{record_shape, value_of}
 use Rattle.fields.specs.declared.value.Value.{Value}
-use Rattle.fields.specs.declared.value.Value.TheVariants as Value
 use Rattle.body.specs.Division.{Whole}
 use Rattle.body.specs.Sections.{first_data}
 use Rattle.body.specs.WellFormed.{WellFormed}

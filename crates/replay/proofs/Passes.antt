@@ -1,5 +1,5 @@
 -- Two passes come to what one does. Where a look-up ends depends on which entries are taken, and by whom; the first pass takes the same entries as recording would, so the first fault is the same, and recording into entries that wait leaves what recording alone leaves: a place that is reserved later can be reserved after an earlier record goes in.
-use Prim.Native.Nat.{ℕ, zero, suc, ◌-◌, ◌^◌, ◌<◌, max}
+use Prim.Native.Nat.{ℕ, zero, suc, ◌^◌, ◌<◌, max}
 use mathlib.Core.Path.{◌≡◌, refl, sym, ap, ap₂, subst, ◌∙◌}
 use mathlib.Core.Bool.{Bool, true, false, cond}
 use mathlib.Core.Logic.{⊎_elim}

@@ -16,9 +16,7 @@ use Rattle.text.specs.declared.Wrong.TheVariants.{Nowhere}
 use Rattle.text.proofs.GoesWrong.{nowhere_exactly}
 use Rattle.fields.specs.Value.{record_shape, shaped_of, value_of}
 use Rattle.fields.specs.declared.value.Shape.{Shape}
-use Rattle.fields.specs.declared.value.Shape.TheVariants as Shape
 use Rattle.fields.specs.declared.value.Value.{Value}
-use Rattle.fields.specs.declared.value.Value.TheVariants as Value
 use Rattle.rows.specs.Fit.{is_bad_text}
 use Rattle.rows.specs.Plain.{plain_byte, is_plain}
 

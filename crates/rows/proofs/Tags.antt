@@ -9,7 +9,6 @@ use denote.Enum.Declared.{tag_of}
 use borrow.Author.Tests.{ne_eqb}
 use Rattle.words.specs.Members.{to}
 use Rattle.fields.specs.declared.value.Value.{Value}
-use Rattle.fields.specs.declared.value.Value.TheVariants as Value
 use Rattle.fields.specs.contracts.value.Value as value
 use Rattle.rows.specs.Days.{seconds_in}
 use Rattle.rows.specs.Fit.{is_bad_text, is_misshapen}

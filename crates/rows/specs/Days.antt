@@ -1,7 +1,6 @@
 -- "Days are expiry minus the given now, both unsigned 32-bit seconds, divided by 86,400 and rounded towards minus infinity; no expiry, or expiry 0, gives 2,147,483,647." (document 02, Q-6)
 use Rattle.std.specs.Prelude.{ℕ, ◌+◌, ◌-◌, ◌*◌, ◌/◌, ◌%◌, ◌^◌, ◌<◌, ◌≤◌, ◌≡◌, cond, eqb}
 use Rattle.fields.specs.declared.value.Value.{Value}
-use Rattle.fields.specs.declared.value.Value.TheVariants as Value
 
 -- expiry minus now, divided by 86,400 and rounded towards minus infinity, as 32 bits hold it in two's complement: 2^32 days more keep the difference from falling below 0, and leave these bits as they are
 unfoldable pub days_between : ℕ → ℕ → ℕ

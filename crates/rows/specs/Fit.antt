@@ -3,7 +3,6 @@ use Rattle.std.specs.Prelude.{ℕ, ◌^◌, ◌<◌, ◌≡◌, Bool, true, fals
 use Rattle.words.specs.Members.{among}
 use Rattle.fields.specs.Value.{value_of}
 use Rattle.fields.specs.declared.value.Value.{Value}
-use Rattle.fields.specs.declared.value.Value.TheVariants as Value
 use Rattle.rows.specs.Login.{Login}
 
 abbrev pub is_bad_text : Value → Bool

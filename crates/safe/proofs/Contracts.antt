@@ -11,9 +11,7 @@ use Rattle.safe.specs.Calls.{Reports}
 use Rattle.safe.specs.declared.Refusal.{Refusal}
 use Rattle.safe.specs.declared.Refusal.TheVariants.{Length, Passphrase, Room, Tag, Floor, Ceiling, Marker, Check, Body, Block}
 use Rattle.safe.specs.declared.Outcome.{Outcome}
-use Rattle.safe.specs.declared.Outcome.TheVariants as Outcome
 use Rattle.safe.specs.declared.Written.{Written}
-use Rattle.safe.specs.declared.Written.TheVariants as Written
 use Rattle.safe.specs.declared.Reading.{Reading}
 
 -- the refusal of a number

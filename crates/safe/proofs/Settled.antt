@@ -15,7 +15,6 @@ use Rattle.file.specs.Layout.{split}
 use Rattle.file.specs.Edition.{Stretched}
 use Rattle.file.specs.Reading.{Report, refused, reading_of, settled}
 use Rattle.file.proofs.Passed.{Late, Early, early, passed_early}
-use Rattle.file.proofs.Ends as Ends
 use Rattle.file.proofs.Decrypted.{whole_body}
 use Rattle.safe.specs.V3.{v3, v3_edition, stretched_v3}
 use Rattle.safe.specs.Calls.{salt_in, iter_in, iv_in, encrypted_in, mac_in, blocks_in, stretched_in, key_k_in, key_l_in, last_state, number_of, Reports, Reads}

@@ -16,9 +16,7 @@ use Rattle.safe.specs.V3.{v3, v3_edition}
 use Rattle.safe.specs.Answers.{refusal_number, outcome_number, header_count, record_count, written_number, reported}
 use Rattle.safe.specs.Calls.{Reports}
 use Rattle.safe.specs.declared.Outcome.{Outcome}
-use Rattle.safe.specs.declared.Outcome.TheVariants as Outcome
 use Rattle.safe.specs.declared.Written.{Written}
-use Rattle.safe.specs.declared.Written.TheVariants as Written
 use Rattle.safe.specs.declared.Reading.{Reading}
 use Rattle.safe.proofs.Contracts.{refusal_of}
 

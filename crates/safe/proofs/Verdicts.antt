@@ -31,7 +31,6 @@ use Rattle.safe.specs.Steps.{early_reading, Ready, state_under, Decrypts, verdic
 use Rattle.safe.specs.declared.Refusal.{Refusal}
 use Rattle.safe.specs.declared.Refusal.TheVariants.{Length, Passphrase, Room, Tag, Floor, Ceiling, Marker, Check, Body, Block}
 use Rattle.safe.specs.declared.Early.{Early}
-use Rattle.safe.specs.declared.Early.TheVariants as Early
 use Rattle.safe.specs.declared.Outcome.TheVariants.{Accepted}
 use Rattle.safe.specs.declared.Reading.{Reading}
 use Rattle.safe.specs.declared.decrypt.Keys.{Keys}

@@ -20,7 +20,6 @@ use Rattle.safe.specs.Steps.{early_writing}
 use Rattle.safe.specs.Laying.{Blank, Laid}
 use Rattle.safe.specs.declared.Refusal.{Refusal}
 use Rattle.safe.specs.declared.Early.{Early}
-use Rattle.safe.specs.declared.Early.TheVariants as Early
 use Rattle.safe.proofs.Verdicts.{positive}
 
 -- an array of n bytes, by what a call says of it

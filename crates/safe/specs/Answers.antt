@@ -4,11 +4,8 @@ use Rattle.file.specs.Reading.{Report}
 use Rattle.safe.specs.declared.Refusal.{Refusal}
 use Rattle.safe.specs.declared.Refusal.TheVariants.{Length, Passphrase, Room, Tag, Floor, Ceiling, Marker, Check, Body, Block}
 use Rattle.safe.specs.declared.Outcome.{Outcome}
-use Rattle.safe.specs.declared.Outcome.TheVariants as Outcome
 use Rattle.safe.specs.declared.Early.{Early}
-use Rattle.safe.specs.declared.Early.TheVariants as Early
 use Rattle.safe.specs.declared.Written.{Written}
-use Rattle.safe.specs.declared.Written.TheVariants as Written
 use Rattle.safe.specs.declared.Reading.{Reading}
 
 abbrev pub refusal_number : Refusal → ℕ

@@ -14,11 +14,9 @@ use Rattle.fields.specs.Step.{step_of}
 use Rattle.fields.specs.Walk.{field_by, with_value, walk_by, walk_number, walk_numbers}
 use Rattle.fields.specs.declared.Cursor.{Cursor}
 use Rattle.fields.specs.declared.Stepped.{Stepped}
-use Rattle.fields.specs.declared.Stepped.TheVariants as Stepped
 use Rattle.fields.specs.declared.Walked.{Walked}
 use Rattle.fields.specs.declared.Walked.TheVariants.{Took}
 use Rattle.fields.specs.declared.value.Value.{Value}
-use Rattle.fields.specs.declared.value.Value.TheVariants as Value
 use Rattle.fields.proofs.Numbers.{walk_numbers_lem}
 use Rattle.fields.proofs.Stamps.{old_exactly, as_stamp, as_listed, stamp_exactly, stamp_else, stamp_before, unless_digits}
 use Rattle.fields.proofs.Valued.{valued}

@@ -15,7 +15,6 @@ use Rattle.fields.specs.Value.{value_of}
 use Rattle.fields.specs.Step.{step_of}
 use Rattle.fields.specs.Walk.{with_value, walk_numbers}
 use Rattle.fields.specs.declared.Stepped.{Stepped}
-use Rattle.fields.specs.declared.Stepped.TheVariants as Stepped
 use Rattle.fields.specs.declared.value.Value.TheVariants as Value
 use Rattle.fields.proofs.Valued.{valued}
 use Rattle.fields.proofs.Texts.{text_exactly, bad_exactly, bad_in}

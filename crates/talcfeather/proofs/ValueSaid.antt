@@ -16,7 +16,6 @@ use Rattle.fields.specs.declared.Field.{Field}
 use Rattle.fields.specs.declared.Stepped.TheVariants as Stepped
 use Rattle.fields.specs.declared.Walked.TheVariants.{Took}
 use Rattle.fields.specs.declared.value.Value.{Value}
-use Rattle.fields.specs.declared.value.Value.TheVariants as Value
 use Rattle.fields.proofs.Outcomes.{taken, data_inside}
 use Rattle.fields.proofs.Valued.{valued}
 use Rattle.fields.proofs.Numbers.{value_by, value_said, three_numbers}

@@ -13,7 +13,6 @@ use Rattle.uuids.specs.Uuids.{uuids_from}
 use Rattle.uuids.specs.Table.{id_at, start_of, place_of, Looks, TakenIn}
 use Rattle.uuids.specs.Batches.{NextAt, Stepping, NoMembers, Best, on_from, Passing, went_to}
 use Rattle.uuids.specs.declared.next.Next.{Next}
-use Rattle.uuids.specs.declared.next.Next.TheVariants as Next
 use Rattle.uuids.specs.declared.table.Look.{Look}
 use Rattle.uuids.specs.declared.table.Look.TheVariants.{Known, Free, Full}
 use Rattle.uuids.specs.contracts.table.Look as looks

@@ -5,7 +5,6 @@ use Rattle.uuids.specs.Table.{id_at}
 use Rattle.uuids.specs.declared.Repeat.{Repeat}
 use Rattle.uuids.specs.declared.Repeat.TheVariants.{At, Nothing}
 use Rattle.uuids.specs.declared.next.Next.{Next}
-use Rattle.uuids.specs.declared.next.Next.TheVariants as Next
 use Rattle.uuids.specs.declared.batch.Went.{Went}
 
 -- the next UUID stands at p, some blocks on; its field ends 27 bytes further

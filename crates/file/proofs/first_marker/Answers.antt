@@ -2,7 +2,6 @@
 use Prim.Native.Nat.{◌/◌}
 use native.Mathlib.Omega.{arith}
 use lib.ListN.{length}
-use Rattle.words.specs.Slices.{same}
 use Rattle.file.proofs.Markers.{scan_start, block_same, scan_stops, scan_goes, scan_ends}
 use borrow.Author.Rules.{rules}
 use Rattle.file.proofs.first_marker.Goals as goal
