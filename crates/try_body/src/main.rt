@@ -196,10 +196,8 @@ fn repeats(rt: &impl Print) -> io::Result<()> {
         rt,
         b"-- header types that may repeat, and those that may not\n",
     )?;
-    let mut kind: u8 = 0;
-    while kind < 0x16 {
+    for kind in 0..0x16 {
         repeat(rt, kind)?;
-        kind += 1;
     }
     repeat(rt, 0xfe)
 }

@@ -10,12 +10,9 @@ fn put(rt: &impl Print, s: &[u8]) -> io::Result<()> {
 }
 
 fn hex(rt: &impl Print, s: &[u8]) -> io::Result<()> {
-    let mut i: usize = 0;
-    while i < s.len() {
-        let b = s[i];
-        let two = [digit(b / 16), digit(b)];
+    for b in s {
+        let two = [digit(*b / 16), digit(*b)];
         put(rt, &two)?;
-        i += 1;
     }
     Ok(())
 }
@@ -38,11 +35,9 @@ fn vector(rt: &impl Print, key: &[u8; 32], text: &[u8; 16]) -> io::Result<[u8; 1
 // The next key of the table: the text, then the first half of the key.
 fn next_key(key: &[u8; 32], text: &[u8; 16]) -> [u8; 32] {
     let mut next = [0u8; 32];
-    let mut i: usize = 0;
-    while i < 16 {
+    for i in 0..16 {
         next[i] = text[i];
         next[16 + i] = key[i];
-        i += 1;
     }
     next
 }
@@ -50,8 +45,7 @@ fn next_key(key: &[u8; 32], text: &[u8; 16]) -> [u8; 32] {
 fn table(rt: &impl Print) -> io::Result<()> {
     let mut key = [0u8; 32];
     let mut text = [0u8; 16];
-    let mut i: u64 = 1;
-    while i < 50 {
+    for i in 1..50 {
         put(rt, b"I=")?;
         print!(rt; "{i}")?;
         put(rt, b" ")?;
@@ -59,7 +53,6 @@ fn table(rt: &impl Print) -> io::Result<()> {
         let next = next_key(&key, &text);
         key = next;
         text = cipher;
-        i += 1;
     }
     Ok(())
 }
@@ -81,10 +74,8 @@ fn counted(rt: &impl Print, name: &[u8], m: &[u8], count: u64) -> io::Result<()>
 // The bytes 0 to 63.
 fn counting() -> [u8; 64] {
     let mut text = [0u8; 64];
-    let mut i: u8 = 0;
-    while i < 64 {
+    for i in 0..64u8 {
         text[i as usize] = i;
-        i += 1;
     }
     text
 }

@@ -19,10 +19,8 @@ fn hex(rt: &impl Print, n: u8) -> io::Result<()> {
 }
 
 fn spelt(rt: &impl Print, s: &[u8]) -> io::Result<()> {
-    let mut i: usize = 0;
-    while i < s.len() {
-        hex(rt, s[i])?;
-        i += 1;
+    for b in s {
+        hex(rt, *b)?;
     }
     say(rt, b": ")
 }
@@ -212,10 +210,8 @@ fn row(rt: &impl Print, in_record: bool, kind: u8) -> io::Result<()> {
 }
 
 fn rows(rt: &impl Print, in_record: bool) -> io::Result<()> {
-    let mut kind: u8 = 0;
-    while kind < 0x23 {
+    for kind in 0..0x23 {
         row(rt, in_record, kind)?;
-        kind += 1;
     }
     row(rt, in_record, 0xfe)?;
     row(rt, in_record, 0xff)

@@ -14,10 +14,8 @@ fn put_byte(rt: &impl Print, b: u8) -> io::Result<()> {
 }
 
 fn put_hex(rt: &impl Print, d: &[u8]) -> io::Result<()> {
-    let mut i: usize = 0;
-    while i < d.len() {
-        put_byte(rt, d[i])?;
-        i += 1;
+    for b in d {
+        put_byte(rt, *b)?;
     }
     put(rt, b"\n")
 }
@@ -32,20 +30,16 @@ fn named(rt: &impl Print, name: &[u8], d: [u8; 32]) -> io::Result<()> {
 fn million() -> [u8; 32] {
     let piece = [b'a'; 1000];
     let mut st = hash::start();
-    let mut i: usize = 0;
-    while i < 1000 {
+    for _ in 0..1000 {
         st = hash::take_in(st, &piece);
-        i += 1;
     }
     sha256::compression::digest(hash::finish(st))
 }
 
 fn salt() -> [u8; 32] {
     let mut s = [0u8; 32];
-    let mut i: usize = 0;
-    while i < 32 {
+    for i in 0..32 {
         s[i] = (i % 256) as u8;
-        i += 1;
     }
     s
 }
