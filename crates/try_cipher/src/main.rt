@@ -1,132 +1,133 @@
 // The Twofish paper's vectors for keys of 256 bits, and both modes, printed. BACK is what decryption makes of CT.
 #![tactic(auto)]
 
+use std::io;
 use twofish::blocks::{decrypt_block, encrypt_block};
 use words::hex::digit;
 
-fn put(s: &[u8]) {
-    io::write_all(1, s);
+fn put(rt: &impl Print, s: &[u8]) -> io::Result<()> {
+    rt.write_all(s)
 }
 
-fn hex(s: &[u8]) {
-    let mut i: usize = 0;
-    while i < s.len() {
-        let b = s[i];
-        let two = [digit(b / 16), digit(b)];
-        put(&two);
-        i += 1;
+fn hex(rt: &impl Print, s: &[u8]) -> io::Result<()> {
+    for b in s {
+        let two = [digit(*b / 16), digit(*b)];
+        put(rt, &two)?;
     }
+    Ok(())
 }
 
-fn vector(key: &[u8; 32], text: &[u8; 16]) -> [u8; 16] {
+fn vector(rt: &impl Print, key: &[u8; 32], text: &[u8; 16]) -> io::Result<[u8; 16]> {
     let cipher = encrypt_block(key, text);
     let back = decrypt_block(key, &cipher);
-    put(b"KEY=");
-    hex(key);
-    put(b" PT=");
-    hex(text);
-    put(b" CT=");
-    hex(&cipher);
-    put(b" BACK=");
-    hex(&back);
-    put(b"\n");
-    cipher
+    put(rt, b"KEY=")?;
+    hex(rt, key)?;
+    put(rt, b" PT=")?;
+    hex(rt, text)?;
+    put(rt, b" CT=")?;
+    hex(rt, &cipher)?;
+    put(rt, b" BACK=")?;
+    hex(rt, &back)?;
+    put(rt, b"\n")?;
+    Ok(cipher)
 }
 
 // The next key of the table: the text, then the first half of the key.
 fn next_key(key: &[u8; 32], text: &[u8; 16]) -> [u8; 32] {
     let mut next = [0u8; 32];
-    let mut i: usize = 0;
-    while i < 16 {
+    for i in 0..16 {
         next[i] = text[i];
         next[16 + i] = key[i];
-        i += 1;
     }
     next
 }
 
-fn table() {
+fn table(rt: &impl Print) -> io::Result<()> {
     let mut key = [0u8; 32];
     let mut text = [0u8; 16];
-    let mut i: u64 = 1;
-    while i < 50 {
-        put(b"I=");
-        io::print_decimal(1, i);
-        put(b" ");
-        let cipher = vector(&key, &text);
+    for i in 1..50 {
+        put(rt, b"I=")?;
+        print!(rt; "{i}")?;
+        put(rt, b" ")?;
+        let cipher = vector(rt, &key, &text)?;
         let next = next_key(&key, &text);
         key = next;
         text = cipher;
-        i += 1;
     }
+    Ok(())
 }
 
-fn memory(name: &[u8], m: &[u8]) {
-    put(name);
-    hex(m);
-    put(b"\n");
+fn memory(rt: &impl Print, name: &[u8], m: &[u8]) -> io::Result<()> {
+    put(rt, name)?;
+    hex(rt, m)?;
+    put(rt, b"\n")
 }
 
-fn counted(name: &[u8], m: &[u8], count: u64) {
-    put(name);
-    hex(m);
-    put(b" BLOCKS=");
-    io::print_decimal(1, count);
-    put(b"\n");
+fn counted(rt: &impl Print, name: &[u8], m: &[u8], count: u64) -> io::Result<()> {
+    put(rt, name)?;
+    hex(rt, m)?;
+    put(rt, b" BLOCKS=")?;
+    print!(rt; "{count}")?;
+    put(rt, b"\n")
 }
 
 // The bytes 0 to 63.
 fn counting() -> [u8; 64] {
     let mut text = [0u8; 64];
-    let mut i: u8 = 0;
-    while i < 64 {
+    for i in 0..64u8 {
         text[i as usize] = i;
-        i += 1;
     }
     text
 }
 
-fn ecb(key: &[u8; 32], m: &mut [u8]) -> u64 {
+fn ecb(rt: &impl Print, key: &[u8; 32], m: &mut [u8]) -> io::Result<u64> {
     chain::ecb_encrypt(key, m);
-    memory(b"ECB ", m);
+    memory(rt, b"ECB ", m)?;
     let count = chain::ecb_decrypt(key, m, 0);
-    counted(b"BACK ", m, count);
-    count
+    counted(rt, b"BACK ", m, count)?;
+    Ok(count)
 }
 
 // The whole memory is no whole number of blocks: it is refused.
-fn cbc(key: &[u8; 32], iv: &[u8; 16], text: &[u8], m: &mut [u8], count: u64) {
+fn cbc(
+    rt: &impl Print,
+    key: &[u8; 32],
+    iv: &[u8; 16],
+    text: &[u8],
+    m: &mut [u8],
+    count: u64,
+) -> io::Result<()> {
     chain::cbc_encrypt(key, iv, text, m);
-    memory(b"CBC ", m);
+    memory(rt, b"CBC ", m)?;
     let n = text.len();
     if m.len() < n {
-        return;
+        return Ok(());
     }
     let more = chain::cbc_decrypt(key, iv, &mut m[0..n], count);
-    counted(b"BACK ", m, more);
+    counted(rt, b"BACK ", m, more)?;
     let same = chain::cbc_decrypt(key, iv, m, more);
-    counted(b"REFUSED ", m, same);
+    counted(rt, b"REFUSED ", m, same)
 }
 
-fn keys(key: &[u8; 32], m: &mut [u8; 64]) -> u64 {
-    ecb(key, m)
+fn keys(rt: &impl Print, key: &[u8; 32], m: &mut [u8; 64]) -> io::Result<u64> {
+    ecb(rt, key, m)
 }
 
 // Four blocks in ECB, then four in CBC, whose count goes on from the first.
-fn modes(key: &[u8; 32]) {
+fn modes(rt: &impl Print, key: &[u8; 32]) -> io::Result<()> {
     let iv = b"\xf0\xf1\xf2\xf3\xf4\xf5\xf6\xf7\xf8\xf9\xfa\xfb\xfc\xfd\xfe\xff";
     let text = counting();
     let mut m = text;
-    let four = keys(key, &mut m);
+    let four = keys(rt, key, &mut m)?;
     let mut work = [0xEEu8; 68];
-    cbc(key, iv, &text, &mut work, four);
+    cbc(rt, key, iv, &text, &mut work, four)
 }
 
-fn main() {
-    table();
+fn main(rt: HostRuntime) -> io::Result<()> {
+    table(&rt)?;
     let key =
         b"\x01\x23\x45\x67\x89\xab\xcd\xef\xfe\xdc\xba\x98\x76\x54\x32\x10\x00\x11\x22\x33\x44\x55\x66\x77\x88\x99\xaa\xbb\xcc\xdd\xee\xff";
     let text = [0u8; 16];
-    vector(key, &text);
-    modes(key);
+    vector(&rt, key, &text)?;
+    modes(&rt, key)
 }

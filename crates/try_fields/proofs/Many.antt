@@ -1,7 +1,6 @@
 -- A list of n copies is n long.
-use Prim.Native.Nat.{ℕ}
-use mathlib.Core.Path.{◌≡◌, sym}
-use lib.ListN.{length, replicate, length-replicate}
+use Rattle.std.proofs.Common.{◌≡◌, ℕ, sym, length, replicate}
+use Rattle.std.proofs.lemmas.List.{length-replicate}
 
 pub many : (n x : ℕ) → n ≡ length (replicate n x)
 many n x = sym (length-replicate n x)
