@@ -91,7 +91,7 @@ fn run(goal: &str, variables: &[OsString]) -> Output {
     let mut arguments: Vec<&OsStr> = vec!["--dry-run".as_ref(), goal.as_ref()];
     arguments.extend(variables.iter().map(OsString::as_os_str));
     let planned = text(make(&arguments).stdout);
-    assert!(!planned.contains("rt staticlib"), "the archive is old: run `make library` first");
+    assert!(!planned.contains("tools/archive"), "the archive is old: run `make library` first");
     make(&arguments[1..])
 }
 
