@@ -17,14 +17,14 @@ ghost use Rattle.body.specs.Find.{find_of};
 ghost use Rattle.body.specs.Tally.{sections_of};
 
 // How many header fields and records a body has, or that it is not well formed.
-#[derive(Drop)]
+#[derive(Clone, Copy)]
 pub enum Judged {
     Counts(usize, usize),
     NotWellFormed,
 }
 
 // The number of a record and the place of its first field.
-#[derive(Drop)]
+#[derive(Clone, Copy)]
 pub enum Sought {
     At(usize, usize),
     Nowhere,
@@ -32,7 +32,7 @@ pub enum Sought {
 }
 
 // What was found, and how many fields were visited.
-#[derive(Drop)]
+#[derive(Clone, Copy)]
 pub struct Found {
     pub sought: Sought,
     pub visited: usize,

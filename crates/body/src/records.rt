@@ -6,14 +6,14 @@ ghost use Rattle.body.specs.Tally.{or_else, spot_if, no_firsts, firsts_with};
 use fields::{Cursor, Stepped};
 
 // The place of a field's data, and their length.
-#[derive(Drop)]
+#[derive(Clone, Copy)]
 pub enum Spot {
     At(usize, usize),
     Absent,
 }
 
 // The first field of types 01, 02, 03, 04 and 0a.
-#[derive(Drop)]
+#[derive(Clone, Copy)]
 pub struct Firsts {
     pub uuid: Spot,
     pub group: Spot,
@@ -23,7 +23,7 @@ pub struct Firsts {
 }
 
 // The place behind a record's END, the number of its fields, and the first of some types.
-#[derive(Drop)]
+#[derive(Clone, Copy)]
 pub struct Record {
     pub next: usize,
     pub fields: usize,

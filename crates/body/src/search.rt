@@ -8,7 +8,7 @@ use super::{Found, Sought};
 use fields::{Cursor, Stepped, Value};
 
 // How far a search has come: the number of the record that it is in, the place of its first field, and how many fields were visited.
-#[derive(Drop)]
+#[derive(Clone, Copy)]
 pub struct Progress {
     pub number: usize,
     pub place: usize,

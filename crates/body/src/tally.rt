@@ -4,7 +4,7 @@ ghost use Rattle.words.specs.Members.{among};
 ghost use Rattle.body.specs.Tally.{once, length_fits, is_marked, with_mark, empty_section, still_fine, noted, passes, stepped, header_field, record_end};
 
 // Which of the types that may occur once were seen, a bit for each (13 is the highest), whether all is right so far, and whether the section has a field.
-#[derive(Drop)]
+#[derive(Clone, Copy)]
 pub struct Section {
     pub seen: u32,
     pub fine: bool,

@@ -4,7 +4,7 @@ ghost use Rattle.words.specs.Numbers.{Bytes};
 ghost use Rattle.words.specs.Slices.{copied};
 ghost use Rattle.twofish.specs.Twofish.{block_of, block_bytes};
 ghost use Rattle.twofish.specs.Tabled.{tabled_encrypt, tabled_decrypt};
-ghost use Rattle.chain.specs.Blocks.{xor_block, chained as chainedOf, EncryptedBlock, DecryptedBlock};
+ghost use Rattle.chain.specs.Blocks.{xor_block, chained as chained_of, EncryptedBlock, DecryptedBlock};
 
 use super::Mode;
 use twofish::blocks::{bytes, load};
@@ -31,7 +31,7 @@ fn xor(x: Block, y: Block) -> Block
 
 // A block with the cipher block before it, as the mode has it: a text that is to be encrypted, or a block that was decrypted.
 pub fn chained(mode: Mode, prev: Block, x: Block) -> Block
-    ensures { result ≡ chainedOf mode prev x }
+    ensures { result ≡ chained_of mode prev x }
 {
     match mode {
         Mode::Ecb => x,

@@ -13,7 +13,7 @@ ghost use Rattle.chain.specs.Modes.{ecb_e, ecb_d, cbc_e, cbc_d};
 ghost use Rattle.chain.specs.Memory.{encrypted_in_place, encrypted_into, decrypted_in_place, Handed};
 ghost use Rattle.chain.specs.Twofish.{twofish_cipher};
 
-#[derive(Drop)]
+#[derive(Clone, Copy)]
 enum Mode {
     Ecb,
     Cbc,

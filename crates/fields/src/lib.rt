@@ -8,21 +8,21 @@ pub mod value;
 
 ghost use Rattle.std.specs.Prelude.{◌≡◌};
 ghost use Rattle.fields.specs.Stored.{room_of, fill_of};
-ghost use Rattle.fields.specs.Step.{step_of, start as start_of, end_with_data, passed as passedOf};
+ghost use Rattle.fields.specs.Step.{step_of, start as start_of, end_with_data, passed as passed_of};
 ghost use Rattle.fields.specs.Walk.{walk_of};
 
 pub use store::{Appended, append};
 pub use value::Value;
 
 // Where the walk stands, and whether it is in a record or still in the header.
-#[derive(Drop)]
+#[derive(Clone, Copy)]
 pub struct Cursor {
     pub place: usize,
     pub in_record: bool,
 }
 
 // A field: its type, the place of its first length byte, the length of its data, and its value.
-#[derive(Drop)]
+#[derive(Clone, Copy)]
 pub struct Field {
     pub kind: u8,
     pub place: usize,
@@ -31,7 +31,7 @@ pub struct Field {
 }
 
 // Misplaced is refusal 11, Broken 14.
-#[derive(Drop)]
+#[derive(Clone, Copy)]
 pub enum Walked {
     Took(Field, Cursor),
     Finished,
@@ -40,7 +40,7 @@ pub enum Walked {
 }
 
 // What the walk finds at a cursor, without the value: the field's type and the length of its data, and the cursor after it.
-#[derive(Drop)]
+#[derive(Clone, Copy)]
 pub enum Stepped {
     Took(u8, usize, Cursor),
     Finished,
@@ -83,7 +83,7 @@ pub fn end_with_data(kind: u8, len: usize) -> bool
 
 // The cursor behind a field of this type.
 fn passed(place: usize, in_record: bool, kind: u8) -> Cursor
-    ensures { result ≡ passedOf place in_record kind }
+    ensures { result ≡ passed_of place in_record kind }
 {
     if in_record {
         return Cursor {

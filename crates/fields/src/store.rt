@@ -5,7 +5,7 @@ ghost use Rattle.fields.specs.Stored.{stored, bytes_of};
 ghost use Rattle.fields.specs.Append.{append_of, buffer_after};
 
 // The next place, or why the field was refused: 11, 13, 12, 3.
-#[derive(Drop)]
+#[derive(Clone, Copy)]
 pub enum Appended {
     Next(usize),
     Misplaced,

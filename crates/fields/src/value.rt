@@ -3,7 +3,7 @@ ghost use Rattle.std.specs.Prelude.{◌≡◌, ◌<◌, length};
 ghost use Rattle.fields.specs.Value.{header_shape, record_shape, shaped_of, listed_of, stamp_of, value_of};
 
 // How the data of a field of some type is to be read: Word and Half are numbers of 4 and 2 bytes.
-#[derive(Drop)]
+#[derive(Clone, Copy)]
 pub enum Shape {
     Uuid,
     Time,
@@ -15,7 +15,7 @@ pub enum Shape {
 }
 
 // BadText has the number of bytes that are right.
-#[derive(Drop)]
+#[derive(Clone, Copy)]
 pub enum Value {
     Empty,
     End,

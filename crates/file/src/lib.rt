@@ -2,7 +2,7 @@
 #![tactic(auto)]
 
 ghost use Rattle.std.specs.Prelude.{◌≡◌, ◌/◌, length};
-ghost use Rattle.file.specs.Layout.{marker as markerOf, first_marker};
+ghost use Rattle.file.specs.Layout.{marker as marker_of, first_marker};
 ghost use Rattle.file.specs.Reading.{bad_length};
 ghost use Rattle.file.specs.Writing.{bad_body};
 
@@ -34,7 +34,7 @@ pub fn bad_body(n: usize) -> bool
 
 // ASCII PWS3-EOFPWS3-EOF.
 pub fn marker() -> [u8; 16]
-    ensures { result ≡ markerOf }
+    ensures { result ≡ marker_of }
 {
     [
         80, 87, 83, 51, 45, 69, 79, 70, 80, 87, 83, 51, 45, 69, 79, 70,

@@ -13,7 +13,7 @@ ghost use Rattle.logins.specs.Export.{body_records, checked_from, table_from, ro
 
 // How many rows were written, or why none was: the body is not well formed; the table can't hold a record, by its number, for a
 // field, by its type; the output is too short.
-#[derive(Drop)]
+#[derive(Clone, Copy)]
 pub enum Exported {
     Rows(usize),
     NotWellFormed,
@@ -22,7 +22,7 @@ pub enum Exported {
 }
 
 // How many records there are, or the first at fault.
-#[derive(Drop)]
+#[derive(Clone, Copy)]
 pub enum Checked {
     Fine(usize),
     Fault(usize, u8),

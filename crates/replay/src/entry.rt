@@ -2,9 +2,9 @@
 ghost use Rattle.std.specs.Prelude.{◌≡◌, ◌+◌, ◌*◌, ◌≤◌, ◌<◌, max, length, take, drop};
 ghost use Rattle.words.specs.Numbers.{number_low, bytes_low};
 ghost use Rattle.words.specs.Slices.{zeros, same};
-ghost use Rattle.replay.specs.Trace.{event_of, fine as fineOf, known as known_of};
-ghost use Rattle.replay.specs.State.{spread_of, entry_of, mark_of, is_mark as isMarkOf, noted, tidy as tidyOf};
-ghost use Rattle.replay.specs.Replay.{latest_of, closed as closedOf, told_of};
+ghost use Rattle.replay.specs.Trace.{event_of, fine as fine_of, known as known_of};
+ghost use Rattle.replay.specs.State.{spread_of, entry_of, mark_of, is_mark as is_mark_of, noted, tidy as tidy_of};
+ghost use Rattle.replay.specs.Replay.{latest_of, closed as closed_of, told_of_lem};
 
 use crate::{Latest, Login, Stood};
 
@@ -43,7 +43,7 @@ fn known(k: u8) -> bool
 }
 
 pub fn fine(r: &[u8]) -> bool
-    ensures { result ≡ fineOf r.now }
+    ensures { result ≡ fine_of r.now }
 {
     if r.len() == 32 {
         if known(r[20]) {
@@ -126,7 +126,7 @@ fn blank(e: &[u8]) -> bool
 }
 
 fn is_mark(m: u64) -> bool
-    ensures { result ≡ isMarkOf m }
+    ensures { result ≡ is_mark_of m }
 {
     if m == 4294967296 {
         return true;
@@ -140,7 +140,7 @@ fn is_mark(m: u64) -> bool
 // Free or taken, as replaying leaves it.
 pub fn tidy(e: &[u8]) -> bool
     requires { length e.now ≡ 32 }
-    ensures { result ≡ tidyOf e.now }
+    ensures { result ≡ tidy_of e.now }
 {
     let c = mark(e, 16);
     if c == 0 {
@@ -163,7 +163,7 @@ fn latest(m: u64) -> Latest
 }
 
 fn closed(c: u64, d: u64) -> bool
-    ensures { result ≡ closedOf c d }
+    ensures { result ≡ closed_of c d }
 {
     if c < 8589934592 {
         return false;
@@ -174,7 +174,7 @@ fn closed(c: u64, d: u64) -> bool
 // What the entry says of its login.
 pub fn told(e: &[u8]) -> Stood
     requires { length e.now ≡ 32 }
-    ensures { result ≡ told_of e.now }
+    ensures { result ≡ told_of_lem e.now }
 {
     if tidy(e) {
         let c = mark(e, 16);

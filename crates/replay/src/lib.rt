@@ -10,7 +10,7 @@ ghost use Rattle.std.specs.Prelude.{◌≡◌, true};
 ghost use Rattle.replay.specs.State.{is_state};
 ghost use Rattle.replay.specs.Calls.{Replays, Stands};
 
-#[derive(Drop)]
+#[derive(Clone, Copy)]
 pub enum Replayed {
     Accepted,
     // The number of the first record at fault.
@@ -19,20 +19,20 @@ pub enum Replayed {
 }
 
 // The latest time of a kind of record.
-#[derive(Drop)]
+#[derive(Clone, Copy)]
 pub enum Latest {
     Never,
     At(u32),
 }
 
-#[derive(Drop)]
+#[derive(Clone, Copy)]
 pub struct Login {
     pub cancelled: bool,
     pub cancel: Latest,
     pub reissue: Latest,
 }
 
-#[derive(Drop)]
+#[derive(Clone, Copy)]
 pub enum Stood {
     Of(Login),
     NotAState,

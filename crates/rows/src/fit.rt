@@ -1,7 +1,7 @@
 // What a row can't hold.
 ghost use Rattle.std.specs.Prelude.{◌≡◌, true, ◌&&◌};
 ghost use Rattle.fields.specs.Value.{value_of};
-ghost use Rattle.rows.specs.Fit.{is_bad_text, is_misshapen, unfit as unfitOf};
+ghost use Rattle.rows.specs.Fit.{is_bad_text, is_misshapen, unfit as unfit_of};
 ghost use Rattle.rows.specs.Plain.{plain_byte, is_plain};
 
 use crate::column;
@@ -52,7 +52,7 @@ fn plain(d: &[u8]) -> bool
 
 // A text that is too long for its room, or BadText, or has a zero byte.
 pub fn unfit(kind: u8, room: usize, d: &[u8]) -> bool
-    ensures { result ≡ unfitOf kind room d.now }
+    ensures { result ≡ unfit_of kind room d.now }
 {
     if room < d.len() {
         return true;

@@ -10,7 +10,7 @@ ghost use Rattle.std.specs.Prelude.{◌≡◌, length};
 ghost use Rattle.rows.specs.Login.{row_from};
 ghost use Rattle.rows.specs.Import.{login_in, values_of, fine_row, Imports, Shows};
 
-#[derive(Drop)]
+#[derive(Clone, Copy)]
 pub enum Imported {
     Rows(usize),
     // The number of the first row at fault.
@@ -18,7 +18,7 @@ pub enum Imported {
 }
 
 // The halves of a UUID, the lengths of the texts, and the days as they are stored.
-#[derive(Drop)]
+#[derive(Clone, Copy)]
 pub struct Values {
     pub low: u64,
     pub high: u64,
@@ -28,7 +28,7 @@ pub struct Values {
     pub days: u32,
 }
 
-#[derive(Drop)]
+#[derive(Clone, Copy)]
 pub enum Shown {
     Of(Values),
     Refused,

@@ -38,7 +38,7 @@ use Rattle.safe.specs.declared.decrypt.Keys.{Keys}
 use Rattle.safe.specs.declared.Reading.{Reading}
 use Rattle.safe.specs.declared.Written.{Written}
 use Rattle.safe.proofs.V3Laws.{v3_laws}
-use Rattle.safe.specs.Calls.{salt_in, iter_in, iv_in, encrypted_in, mac_in, blocks_in, stretched_in, key_kIn, key_lIn, last_state, Matching, number_of, OneToFour, OneToSeven, Reads, Accepts, Writes}
+use Rattle.safe.specs.Calls.{salt_in, iter_in, iv_in, encrypted_in, mac_in, blocks_in, stretched_in, key_k_in, key_l_in, last_state, Matching, number_of, OneToFour, OneToSeven, Reads, Accepts, Writes}
 use Rattle.safe.proofs.Contracts.{one_report, number_is, k_is, l_is, headers_are, records_are, written_told}
 use Rattle.safe.proofs.Acceptance.{is_read, accepts_exactly}
 use Rattle.safe.proofs.Settled.{same_answer, state_held}
@@ -291,7 +291,7 @@ module _ {file passphrase before after : List ℕ} {ceiling : ℕ} {r : Reading}
   -- the answer of the call, and the front of its workspace.
   pub counts_state : (OneToSeven (number_of r) → ⊥) → (number_of r ≡ 8 → ⊥) → {memory left : List ℕ} {keys : Keys} {r' : Reading}
       → Decrypts file (stretched_in passphrase file) memory keys → Settles keys (mac_in file) r.compressions memory left r'
-      → (memory ≡ decrypted (cbc_d twofish_cipher (key_kIn passphrase file)) (blocks_in file) (iv_in file) (encrypted_in file))
+      → (memory ≡ decrypted (cbc_d twofish_cipher (key_k_in passphrase file)) (blocks_in file) (iv_in file) (encrypted_in file))
       × (length memory ≡ length file - 200)
       × (keys.count ≡ 4 + blocks_in file)
       × (r.blocks ≡ keys.count)
@@ -330,14 +330,14 @@ module _ {file passphrase before after : List ℕ} {ceiling : ℕ} {r : Reading}
 
   -- and past that, 9 exactly when the body is not well formed, or its HMAC differs.
   pub reading_nine : (OneToSeven (number_of r) → ⊥) → Matching passphrase file
-      → (number_of r ≡ 9) ↔ ((w : WellFormed (last_state passphrase file).done) → hmac_of (key_lIn passphrase file) (covered w.fields) ≡ mac_in file → ⊥)
+      → (number_of r ≡ 9) ↔ ((w : WellFormed (last_state passphrase file).done) → hmac_of (key_l_in passphrase file) (covered w.fields) ≡ mac_in file → ⊥)
   unfolding v3 stretched_v3 split
   reading_nine =
       told (λ n a b. (OneToSeven n → ⊥) → Matching passphrase file
-      → (n ≡ 9) ↔ ((w : WellFormed (last_state passphrase file).done) → hmac_of (key_lIn passphrase file) (covered w.fields) ≡ mac_in file → ⊥))
+      → (n ≡ 9) ↔ ((w : WellFormed (last_state passphrase file).done) → hmac_of (key_l_in passphrase file) (covered w.fields) ≡ mac_in file → ⊥))
       (λ past m.
       let e = nine v3_edition v3_laws file passphrase ceiling room c.bytes (late past) ((matching passphrase file).0 m) in
-      (λ h w q. e.0 h (covered w.fields, (w, refl), q), λ h. e.1 λ d. h d.1.0 (ap (hmac_of (key_lIn passphrase file)) d.1.1 ∙ d.2)))
+      (λ h w q. e.0 h (covered w.fields, (w, refl), q), λ h. e.1 λ d. h d.1.0 (ap (hmac_of (key_l_in passphrase file)) d.1.1 ∙ d.2)))
 
   -- So whatever is past 1 to 8 and not accepted is 9.
   pub reading_else : (OneToSeven (number_of r) → ⊥) → Matching passphrase file → (number_of r ≡ 0 → ⊥) → number_of r ≡ 9

@@ -18,7 +18,7 @@ use Rattle.file.proofs.Passed.{Late, Early, early, passed_early}
 use Rattle.file.proofs.Ends as Ends
 use Rattle.file.proofs.Decrypted.{whole_body}
 use Rattle.safe.specs.V3.{v3, v3_edition, stretched_v3}
-use Rattle.safe.specs.Calls.{salt_in, iter_in, iv_in, encrypted_in, mac_in, blocks_in, stretched_in, key_kIn, key_lIn, last_state, number_of, Reports, Reads}
+use Rattle.safe.specs.Calls.{salt_in, iter_in, iv_in, encrypted_in, mac_in, blocks_in, stretched_in, key_k_in, key_l_in, last_state, number_of, Reports, Reads}
 use Rattle.safe.specs.Steps.{Decrypts, Settles, settled_under, opened_by}
 use Rattle.safe.specs.declared.Reading.{Reading}
 use Rattle.safe.specs.declared.decrypt.Keys.{Keys}
@@ -53,7 +53,7 @@ module _ {file passphrase before after : List ℕ} {ceiling : ℕ} {r : Reading}
 
   -- what the definition decrypts
   abbrev keys₀ : Keys
-  keys₀ = record { k = key_kIn passphrase file; l = key_lIn passphrase file; count = (last_state passphrase file).count }
+  keys₀ = record { k = key_k_in passphrase file; l = key_l_in passphrase file; count = (last_state passphrase file).count }
 
   abbrev memory₀ : List ℕ
   memory₀ = (last_state passphrase file).done
@@ -87,7 +87,7 @@ module _ {file passphrase before after : List ℕ} {ceiling : ℕ} {r : Reading}
     -- its count is the one that was handed on, and belongs to the whole body decrypted
     pub state_held : (r'.blocks ≡ keys.count)
         × (keys.count ≡ 4 + blocks_in file)
-        × (memory ≡ decrypted (cbc_d twofish_cipher (key_kIn passphrase file)) (blocks_in file) (iv_in file) (encrypted_in file))
+        × (memory ≡ decrypted (cbc_d twofish_cipher (key_k_in passphrase file)) (blocks_in file) (iv_in file) (encrypted_in file))
         × (length memory ≡ length file - 200)
     unfolding v3
     state_held =

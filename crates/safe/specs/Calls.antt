@@ -43,11 +43,11 @@ abbrev pub Matching : (passphrase file : List ℕ) → Type 0
 Matching passphrase file = sha256 (stretched_in passphrase file) ≡ check_in file
 
 -- K and L as the keys' decryption gives them, and the state that the last block decrypted leaves: the text so far, and the count of the blocks that led there.
-abbrev pub key_kIn : (passphrase file : List ℕ) → List ℕ
-key_kIn passphrase file = key_k v3 (split file) (stretched_in passphrase file)
+abbrev pub key_k_in : (passphrase file : List ℕ) → List ℕ
+key_k_in passphrase file = key_k v3 (split file) (stretched_in passphrase file)
 
-abbrev pub key_lIn : (passphrase file : List ℕ) → List ℕ
-key_lIn passphrase file = key_l v3 (split file) (stretched_in passphrase file)
+abbrev pub key_l_in : (passphrase file : List ℕ) → List ℕ
+key_l_in passphrase file = key_l v3 (split file) (stretched_in passphrase file)
 
 abbrev pub last_state : (passphrase file : List ℕ) → Decryption
 last_state passphrase file = body_of v3 (split file) (stretched_in passphrase file) (blocks_in file)

@@ -12,7 +12,7 @@ ghost use Rattle.words.specs.Numbers.{Bytes};
 ghost use Rattle.safe.specs.Calls.{Reads, Writes};
 
 // Why a file is not read, or not written: document 01's numbers 1 to 10, in their order.
-#[derive(Drop)]
+#[derive(Clone, Copy)]
 pub enum Refusal {
     Length,
     Passphrase,
@@ -27,7 +27,7 @@ pub enum Refusal {
 }
 
 // How many header fields and records an accepted file has, or the refusal.
-#[derive(Drop)]
+#[derive(Clone, Copy)]
 pub enum Outcome {
     Accepted(usize, usize),
     Refused(Refusal),
@@ -44,13 +44,13 @@ pub struct Reading {
 }
 
 // What the tests before any work come to.
-#[derive(Drop)]
+#[derive(Clone, Copy)]
 enum Early {
     Passed,
     Refused(Refusal),
 }
 
-#[derive(Drop)]
+#[derive(Clone, Copy)]
 pub enum Written {
     Done,
     Refused(Refusal),

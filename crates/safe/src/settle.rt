@@ -1,6 +1,6 @@
 // What a decrypted body comes to. The two counts are handed in, and nothing here changes them.
 ghost use Rattle.std.specs.Prelude.{◌≡◌, []};
-ghost use Rattle.file.specs.Reading.{refused as refusedOf};
+ghost use Rattle.file.specs.Reading.{refused as refused_of};
 ghost use Rattle.safe.specs.Answers.{refusal_number, reported};
 ghost use Rattle.safe.specs.Steps.{verdict_of, Settles};
 
@@ -11,7 +11,7 @@ use words::slices::{same, zero};
 
 // A refusal: no keys, no counts of fields.
 pub fn refused(x: Refusal, compressions: u64, blocks: u64) -> Reading
-    ensures { reported result [] ≡ refusedOf (refusal_number x) compressions blocks }
+    ensures { reported result [] ≡ refused_of (refusal_number x) compressions blocks }
 {
     Reading {
         outcome: Outcome::Refused(x),

@@ -6,7 +6,7 @@ pub mod hash;
 pub mod hmac;
 
 // Eight words: a hash value, and the working variables of a compression.
-#[derive(Drop)]
+#[derive(Clone, Copy)]
 pub struct Vars {
     pub a: u32,
     pub b: u32,
@@ -19,7 +19,7 @@ pub struct Vars {
 }
 
 // A block: sixteen words.
-#[derive(Drop)]
+#[derive(Clone, Copy)]
 pub struct Block {
     pub w0: u32,
     pub w1: u32,

@@ -2,7 +2,7 @@
 ghost use Rattle.std.specs.Prelude.{◌≡◌, ◌+◌, ◌*◌, ◌≤◌, ◌++◌, length, take, drop, slice_index};
 ghost use Rattle.sha256.specs.Sha256.{padding, padded};
 ghost use Rattle.sha256.specs.Turns.{list_of};
-ghost use Rattle.stretch.specs.Stretch.{compressed as compressedOf, start_of};
+ghost use Rattle.stretch.specs.Stretch.{compressed as compressed_of, start_of};
 
 use super::Stretcher;
 use sha256::Block;
@@ -11,7 +11,7 @@ use words::numbers::wide_byte;
 
 // One compression more.
 fn compressed(s: Stretcher, m: Block) -> Stretcher
-    ensures { result ≡ compressedOf s (list_of m) }
+    ensures { result ≡ compressed_of s (list_of m) }
 {
     let v = s.v;
     Stretcher {

@@ -5,7 +5,7 @@ ghost use Rattle.std.specs.Prelude.{◌≡◌, cond};
 ghost use Rattle.text.specs.Decision.{first_of, after_byte, whole, formed_start, marked_of, before_final_zero, smaller_of, goes_wrong_of};
 
 // What may come next: a first byte; so many further bytes, the next of them within bounds; nothing any more.
-#[derive(Drop)]
+#[derive(Clone, Copy)]
 pub enum Utf8 {
     Start,
     More(u8, u8, u8),
@@ -13,7 +13,7 @@ pub enum Utf8 {
 }
 
 // Where a text goes wrong: nowhere, or behind so many bytes that are right.
-#[derive(Drop)]
+#[derive(Clone, Copy)]
 pub enum Wrong {
     Nowhere,
     At(usize),

@@ -1,7 +1,7 @@
 // Three blocks decrypted side by side: none waits for another, so the processor works on all of them.
 ghost use Rattle.std.specs.Prelude.{◌≡◌, ◌+◌, ◌*◌, ◌<◌};
 ghost use Rattle.words.specs.Table.{at};
-ghost use Rattle.twofish.specs.Cipher.{whiten as whitenOf, swap as swapOf, unround as unroundOf};
+ghost use Rattle.twofish.specs.Cipher.{whiten as whiten_of, swap as swap_of, unround as unround_of};
 ghost use Rattle.twofish.specs.Tabled.{tabled_g, tabled_decrypt};
 ghost use Rattle.twofish.specs.Beside.{threefold};
 
@@ -19,8 +19,8 @@ fn two_back(
     t: Three,
 ) -> Three
     requires { i < 8 }
-    ensures { result ≡ threefold (unroundOf (tabled_g g0.now g1.now g2.now g3.now) (at k.now) (2 * i))
-        (threefold (unroundOf (tabled_g g0.now g1.now g2.now g3.now) (at k.now) (2 * i + 1)) t) }
+    ensures { result ≡ threefold (unround_of (tabled_g g0.now g1.now g2.now g3.now) (at k.now) (2 * i))
+        (threefold (unround_of (tabled_g g0.now g1.now g2.now g3.now) (at k.now) (2 * i + 1)) t) }
 {
     let x = unround(g0, g1, g2, g3, k, 2 * i + 1, t.x);
     let y = unround(g0, g1, g2, g3, k, 2 * i + 1, t.y);
@@ -34,7 +34,7 @@ fn two_back(
 
 // What the rounds back start from.
 fn enter(k: &[u32; 40], x: Block) -> Block
-    ensures { result ≡ swapOf (whitenOf (at k.now) 4 x) }
+    ensures { result ≡ swap_of (whiten_of (at k.now) 4 x) }
 {
     swap(whiten(k, 4, x))
 }

@@ -1,7 +1,7 @@
 // Bytes as polynomials over GF(2).
 ghost use Rattle.std.specs.Prelude.{◌≡◌, ◌*◌, ◌%◌};
 ghost use Rattle.twofish.specs.Field.{gf, twice as twice_of};
-ghost use Rattle.twofish.specs.Columns.{half as half_of, col0 as col0Of, col1 as col1Of, col2 as col2Of, col3 as col3Of};
+ghost use Rattle.twofish.specs.Columns.{half as half_of, col0 as col0_of, col1 as col1_of, col2 as col2_of, col3 as col3_of};
 
 // x divided by the polynomial x, modulo 0x169.
 fn half(x: u8) -> u8
@@ -25,25 +25,25 @@ fn times_ef(x: u8) -> u8
 
 // The columns of the MDS matrix, each times a byte.
 pub fn col0(y: u8) -> u32
-    ensures { result ≡ col0Of y }
+    ensures { result ≡ col0_of y }
 {
     words::numbers::low(y, times_5b(y), times_ef(y), times_ef(y))
 }
 
 pub fn col1(y: u8) -> u32
-    ensures { result ≡ col1Of y }
+    ensures { result ≡ col1_of y }
 {
     words::numbers::low(times_ef(y), times_ef(y), times_5b(y), y)
 }
 
 pub fn col2(y: u8) -> u32
-    ensures { result ≡ col2Of y }
+    ensures { result ≡ col2_of y }
 {
     words::numbers::low(times_5b(y), times_ef(y), y, times_ef(y))
 }
 
 pub fn col3(y: u8) -> u32
-    ensures { result ≡ col3Of y }
+    ensures { result ≡ col3_of y }
 {
     words::numbers::low(times_5b(y), y, times_ef(y), times_5b(y))
 }

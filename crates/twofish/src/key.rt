@@ -2,7 +2,7 @@
 ghost use Rattle.std.specs.Prelude.{◌≡◌, [], ◌∷◌, ◌+◌, ◌*◌, ◌/◌, ◌%◌, ◌^◌, ◌<◌};
 ghost use Rattle.twofish.specs.Field.{dot, product};
 ghost use Rattle.words.specs.Table.{at, table};
-ghost use Rattle.twofish.specs.Key.{y0 as y0Of, y1 as y1Of, y2 as y2Of, y3 as y3Of, h as hOf, RS, eight, box_key, word_a, word_b, subkeys as subkeysOf};
+ghost use Rattle.twofish.specs.Key.{y0 as y0_of, y1 as y1_of, y2 as y2_of, y3 as y3_of, h as h_of, RS, eight, box_key, word_a, word_b, subkeys as subkeys_of};
 
 use super::field::{col0, col1, col2, col3, times};
 use words::numbers::byte;
@@ -15,7 +15,7 @@ fn sub(t: &[u8; 256], x: u8) -> u8
 }
 
 pub fn y0(t0: &[u8; 256], t1: &[u8; 256], l: &[u8; 16], x: u8) -> u8
-    ensures { result ≡ y0Of (at t0.now) (at t1.now) l.now x }
+    ensures { result ≡ y0_of (at t0.now) (at t1.now) l.now x }
 {
     sub(
         t1,
@@ -24,7 +24,7 @@ pub fn y0(t0: &[u8; 256], t1: &[u8; 256], l: &[u8; 16], x: u8) -> u8
 }
 
 pub fn y1(t0: &[u8; 256], t1: &[u8; 256], l: &[u8; 16], x: u8) -> u8
-    ensures { result ≡ y1Of (at t0.now) (at t1.now) l.now x }
+    ensures { result ≡ y1_of (at t0.now) (at t1.now) l.now x }
 {
     sub(
         t0,
@@ -33,7 +33,7 @@ pub fn y1(t0: &[u8; 256], t1: &[u8; 256], l: &[u8; 16], x: u8) -> u8
 }
 
 pub fn y2(t0: &[u8; 256], t1: &[u8; 256], l: &[u8; 16], x: u8) -> u8
-    ensures { result ≡ y2Of (at t0.now) (at t1.now) l.now x }
+    ensures { result ≡ y2_of (at t0.now) (at t1.now) l.now x }
 {
     sub(
         t1,
@@ -42,7 +42,7 @@ pub fn y2(t0: &[u8; 256], t1: &[u8; 256], l: &[u8; 16], x: u8) -> u8
 }
 
 pub fn y3(t0: &[u8; 256], t1: &[u8; 256], l: &[u8; 16], x: u8) -> u8
-    ensures { result ≡ y3Of (at t0.now) (at t1.now) l.now x }
+    ensures { result ≡ y3_of (at t0.now) (at t1.now) l.now x }
 {
     sub(
         t0,
@@ -51,7 +51,7 @@ pub fn y3(t0: &[u8; 256], t1: &[u8; 256], l: &[u8; 16], x: u8) -> u8
 }
 
 pub fn h(t0: &[u8; 256], t1: &[u8; 256], l: &[u8; 16], x: u32) -> u32
-    ensures { result ≡ hOf (at t0.now) (at t1.now) l.now x }
+    ensures { result ≡ h_of (at t0.now) (at t1.now) l.now x }
 {
     let a = y0(t0, t1, l, byte(x, 0));
     let b = y1(t0, t1, l, byte(x, 1));
@@ -145,7 +145,7 @@ pub fn sum_twice(a: u32, b: u32, k: u32) -> u32
 
 // The 40 subkeys.
 pub fn subkeys(t0: &[u8; 256], t1: &[u8; 256], m: &[u8; 32]) -> [u32; 40]
-    ensures { result ≡ subkeysOf (at t0.now) (at t1.now) m.now }
+    ensures { result ≡ subkeys_of (at t0.now) (at t1.now) m.now }
 {
     let e = every_other(m, 0);
     let o = every_other(m, 4);

@@ -13,7 +13,7 @@ mod round;
 pub mod tables;
 
 // A block: four words.
-#[derive(Drop)]
+#[derive(Clone, Copy)]
 pub struct Block {
     pub a: u32,
     pub b: u32,
@@ -22,7 +22,7 @@ pub struct Block {
 }
 
 // Three blocks side by side.
-#[derive(Drop)]
+#[derive(Clone, Copy)]
 pub struct Three {
     pub x: Block,
     pub y: Block,

@@ -1,7 +1,7 @@
 // The look-ups of g, a round of the cipher and back, and the whitening. g0 to g3 are the tables of g, and k has the subkeys.
 ghost use Rattle.std.specs.Prelude.{◌≡◌, ◌<◌};
 ghost use Rattle.words.specs.Table.{at};
-ghost use Rattle.twofish.specs.Cipher.{whiten as whitenOf, swap as swapOf, round as round_of, unround as unroundOf};
+ghost use Rattle.twofish.specs.Cipher.{whiten as whiten_of, swap as swap_of, round as round_of, unround as unround_of};
 ghost use Rattle.twofish.specs.Tabled.{tabled_g};
 
 use super::Block;
@@ -53,7 +53,7 @@ pub fn unround(
     x: Block,
 ) -> Block
     requires { i < 16 }
-    ensures { result ≡ unroundOf (tabled_g g0.now g1.now g2.now g3.now) (at k.now) i x }
+    ensures { result ≡ unround_of (tabled_g g0.now g1.now g2.now g3.now) (at k.now) i x }
 {
     let y = g(g0, g1, g2, g3, x.c);
     let z = g(g0, g1, g2, g3, left(x.d, 8));
@@ -68,7 +68,7 @@ pub fn unround(
 // The words of a block, each with a subkey.
 pub fn whiten(k: &[u32; 40], i: usize, x: Block) -> Block
     requires { i < 5 }
-    ensures { result ≡ whitenOf (at k.now) i x }
+    ensures { result ≡ whiten_of (at k.now) i x }
 {
     Block {
         a: x.a ^ k[i],
@@ -79,7 +79,7 @@ pub fn whiten(k: &[u32; 40], i: usize, x: Block) -> Block
 }
 
 pub fn swap(x: Block) -> Block
-    ensures { result ≡ swapOf x }
+    ensures { result ≡ swap_of x }
 {
     Block {
         a: x.c,

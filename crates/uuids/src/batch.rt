@@ -6,7 +6,7 @@ use super::next::{Next, next_uuid};
 use super::table::{Look, look_up, start, take_in};
 
 // The first number below the limit whose UUID an earlier member has, else the limit; the place behind the last member's field; how many members there are.
-#[derive(Drop)]
+#[derive(Clone, Copy)]
 pub struct Went {
     pub best: usize,
     pub next: usize,

@@ -13,7 +13,7 @@ ghost use Rattle.uuids.specs.Uuids.{uuids_from, Repeats};
 ghost use Rattle.uuids.specs.Batches.{answer_of};
 
 // The number of a UUID, from 0, among those from the place on; or no two are the same.
-#[derive(Drop)]
+#[derive(Clone, Copy)]
 pub enum Repeat {
     At(usize),
     Nothing,

@@ -6,7 +6,7 @@ ghost use Rattle.words.specs.Numbers.{number_low};
 ghost use Rattle.uuids.specs.Table.{id_at, start_of, Tells, Slots, Looks, TakenIn};
 
 // A member has these 16 bytes; or none has, and this slot is free for them, or no slot is.
-#[derive(Drop)]
+#[derive(Clone, Copy)]
 pub enum Look {
     Known,
     Free(usize),

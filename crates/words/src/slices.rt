@@ -1,6 +1,6 @@
 // Slices of bytes: zeroed, copied, compared. Each contract speaks of the whole memory.
 ghost use Rattle.std.specs.Prelude.{◌≡◌, length};
-ghost use Rattle.words.specs.Slices.{zeros, copied, same as sameOf};
+ghost use Rattle.words.specs.Slices.{zeros, copied, same as same_of};
 
 pub fn zero(s: &mut [u8])
     ensures { s.new ≡ zeros (length s.old) }
@@ -24,7 +24,7 @@ pub fn copy(to: &mut [u8], from: &[u8])
 }
 
 pub fn same(a: &[u8], b: &[u8]) -> bool
-    ensures { result ≡ sameOf a.now b.now }
+    ensures { result ≡ same_of a.now b.now }
 {
     if a.len() != b.len() {
         return false;

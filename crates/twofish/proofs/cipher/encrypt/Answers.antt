@@ -1,0 +1,27 @@
+-- `twofish::cipher::encrypt` meets its contract: after i turns the loop holds the definition's first 2 i rounds.
+use Rattle.twofish.specs.Cipher.{rounds, encrypt}
+use Rattle.words.specs.Table.{at}
+use Rattle.twofish.specs.Tabled.{tabled_g, tabled_encrypt}
+use Rattle.twofish.proofs.Steps.{two_more}
+use mathlib.Core.Path.{◌≡◌, refl}
+use Prim.Native.Nat.{◌*◌}
+use native.Mathlib.Omega.{arith}
+use borrow.Author.Rules.{rules}
+use Rattle.twofish.proofs.cipher.encrypt.Goals as goal
+
+pub loop-i-init : goal.loop-i-init
+unfolding rounds
+loop-i-init c = (search rules, refl)
+
+pub loop-i-preserved : goal.loop-i-preserved
+loop-i-preserved c =
+    let a = c.args in
+    let l = c.loop-i in
+    let g = tabled_g a.g0.now a.g1.now a.g2.now a.g3.now in
+    (search rules, two_more g (at a.k.now) l.i _ l.invariant.1 c.round-z.ensures c.round-y.ensures)
+
+pub returns : goal.returns
+unfolding tabled_encrypt encrypt
+returns c =
+    let e : 2 * c.loop-i.i ≡ 16 = omega arith in
+    cc e
