@@ -5,8 +5,8 @@ use std::path::Path;
 use std::process::Command;
 
 /// The variables that say where `make install` puts things.
-pub const FOLDERS: [&str; 7] =
-    ["PREFIX", "DESTDIR", "BINDIR", "LIBDIR", "INCLUDEDIR", "MANDIR", "PKGCONFIGDIR"];
+pub const FOLDERS: [&str; 8] =
+    ["PREFIX", "DESTDIR", "BINDIR", "LIBDIR", "INCLUDEDIR", "MANDIR", "PKGCONFIGDIR", "SHAREDIR"];
 
 /// make in that folder, by itself.
 pub fn make(folder: &Path) -> Command {
