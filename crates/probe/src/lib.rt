@@ -75,8 +75,8 @@ pub extern "C" fn probe_stretch(
     iter: u32,
     out: &mut [u8; 32],
 ) -> u64
-    ensures value { result ≡ (stretched_of iter (start_of passphrase.now salt.now)).count }
-    ensures out_after { out.new ≡ key_of (stretched_of iter (start_of passphrase.now salt.now)) }
+    ensures answer { result ≡ (stretched_of iter (start_of passphrase.now salt.now)).count }
+    ensures memory { out.new ≡ key_of (stretched_of iter (start_of passphrase.now salt.now)) }
 {
     let s = Stretcher::start(passphrase, salt).stretched(iter);
     let k = s.key();

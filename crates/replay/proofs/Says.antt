@@ -6,7 +6,7 @@ use mathlib.Core.List.{List, [], ◌∷◌, ◌++◌}
 use lib.ListN.{length, get_or, take, drop}
 use borrow.Author.Tests.{lt-ltb, eq-eqb}
 use Rattle.replay.specs.State.{cancel_of, reissue_of, tidy, place_of}
-use Rattle.replay.specs.Replay.{closed, latest_of, login_of, told_of_lem, told_at_lem, standing_of}
+use Rattle.replay.specs.Replay.{closed, latest_of, login_of, told_of, told_at, standing_of}
 use Rattle.replay.specs.Answers.{latest_numbers, standing_numbers}
 use Rattle.replay.specs.declared.Latest.{Latest}
 use Rattle.replay.specs.declared.Latest.TheVariants.{Never, At}
@@ -21,15 +21,15 @@ login_is : (c d m n : ℕ) (x : Bool) (y z : Latest) → c ≡ m → d ≡ n →
 login_is c d m n x y z p q e f g = rw (e, f, g) (ap₂ login_of p q)
 
 pub told_of_lem : (e : List ℕ) (t : Bool) (c d : ℕ) (x : Bool) (y z : Latest) → t ≡ tidy e → t ≡ true → c ≡ cancel_of e → d ≡ reissue_of e
-    → x ≡ closed c d → y ≡ latest_of c → z ≡ latest_of d → Of (record { cancelled = x; cancel = y; reissue = z }) ≡ told_of_lem e
+    → x ≡ closed c d → y ≡ latest_of c → z ≡ latest_of d → Of (record { cancelled = x; cancel = y; reissue = z }) ≡ told_of e
 told_of_lem e t c d x y z h k p q i j l = if_true NotAState h k (ap Of (login_is c d (cancel_of e) (reissue_of e) x y z p q i j l))
 
-pub told_here : (s : List ℕ) (i : ℕ) (x : Stood) → i < 4096 → x ≡ told_of_lem (take (32 * i + 32 - 32 * i) (drop (32 * i) s)) → x ≡ told_at_lem s i
-told_here s i x h e = e ∙ ap told_of_lem (part_is s i) ∙ rw (lt-ltb i 4096 h)
+pub told_here : (s : List ℕ) (i : ℕ) (x : Stood) → i < 4096 → x ≡ told_of (take (32 * i + 32 - 32 * i) (drop (32 * i) s)) → x ≡ told_at s i
+told_here s i x h e = e ∙ ap told_of (part_is s i) ∙ rw (lt-ltb i 4096 h)
 
-pub stands_at : (s u : List ℕ) (i : ℕ) (x : Stood) → length s ≡ 131072 → i ≡ place_of s u → x ≡ told_at_lem s i → x ≡ standing_of s u
+pub stands_at : (s u : List ℕ) (i : ℕ) (x : Stood) → length s ≡ 131072 → i ≡ place_of s u → x ≡ told_at s i → x ≡ standing_of s u
 unfolding standing_of
-stands_at s u i x h p e = e ∙ ap (told_at_lem s) p ∙ rw (eq-eqb (length s) 131072 h)
+stands_at s u i x h p e = e ∙ ap (told_at s) p ∙ rw (eq-eqb (length s) 131072 h)
 
 -- the numbers of two times, one after the other
 two_times : (c d : Latest) (x y : List ℕ) → x ≡ latest_numbers c → y ≡ latest_numbers d

@@ -10,7 +10,7 @@ use borrow.Author.Tests.{eq-eqb, lt-ltb, le-ltb, le-leb, leb-true, ltb-false}
 use lib.ListN.{length}
 use Rattle.replay.specs.Trace.{Event}
 use Rattle.replay.specs.State.{place_of}
-use Rattle.replay.specs.Replay.{latest_of, closed, login_of, told_at_lem, standing_of}
+use Rattle.replay.specs.Replay.{latest_of, closed, login_of, told_at, standing_of}
 use Rattle.replay.specs.Calls.{LatestIs, StandsAs}
 use Rattle.replay.specs.declared.Login.{Login}
 use Rattle.replay.specs.declared.Stood.TheVariants.{Of}
@@ -22,13 +22,13 @@ use Rattle.replay.proofs.Marks.{mark_in, mark_latest, mark_none, marks_cancelled
 use Rattle.replay.proofs.Means.{Means}
 
 module _ (s u : List ℕ) (v : Tidy s) where
-  told_at_lem : told_at_lem s (place_of s u) ≡ Of (login_of (cancel_for s u) (reissue_for s u))
+  told_at_lem : told_at s (place_of s u) ≡ Of (login_of (cancel_for s u) (reissue_for s u))
   told_at_lem = ⊎_elim inside outside (lt_or_ge (place_of s u) 4096)
     where
-      inside : place_of s u < 4096 → told_at_lem s (place_of s u) ≡ Of (login_of (cancel_for s u) (reissue_for s u))
+      inside : place_of s u < 4096 → told_at s (place_of s u) ≡ Of (login_of (cancel_for s u) (reissue_for s u))
       inside p = rw (lt-ltb (place_of s u) 4096 p, v.each (place_of s u) p)
 
-      outside : 4096 ≤ place_of s u → told_at_lem s (place_of s u) ≡ Of (login_of (cancel_for s u) (reissue_for s u))
+      outside : 4096 ≤ place_of s u → told_at s (place_of s u) ≡ Of (login_of (cancel_for s u) (reissue_for s u))
       outside p = rw (le-ltb (place_of s u) 4096 p)
 
   pub told_marks : standing_of s u ≡ Of (login_of (cancel_for s u) (reissue_for s u))

@@ -54,12 +54,12 @@ closed c d = cond (ltb c 8589934592) false (leb d c)
 abbrev pub login_of : ℕ → ℕ → Login
 login_of c d = record { cancelled = closed c d; cancel = latest_of c; reissue = latest_of d }
 
-abbrev pub told_of_lem : List ℕ → Stood
-told_of_lem e = cond (tidy e) (stood.Of (login_of (cancel_of e) (reissue_of e))) stood.NotAState
+abbrev pub told_of : List ℕ → Stood
+told_of e = cond (tidy e) (stood.Of (login_of (cancel_of e) (reissue_of e))) stood.NotAState
 
 -- the login whose look-up ends at entry k: 4,096 is that of a UUID that never came
-abbrev pub told_at_lem : List ℕ → ℕ → Stood
-told_at_lem s k = cond (ltb k 4096) (told_of_lem (entry_at s k)) (stood.Of (record { cancelled = false; cancel = Never; reissue = Never }))
+abbrev pub told_at : List ℕ → ℕ → Stood
+told_at s k = cond (ltb k 4096) (told_of (entry_at s k)) (stood.Of (record { cancelled = false; cancel = Never; reissue = Never }))
 
 unfoldable pub standing_of : List ℕ → List ℕ → Stood
-standing_of s u = cond (eqb (length s) 131072) (told_at_lem s (place_of s u)) stood.NotAState
+standing_of s u = cond (eqb (length s) 131072) (told_at s (place_of s u)) stood.NotAState

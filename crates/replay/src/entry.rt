@@ -4,7 +4,7 @@ ghost use Rattle.words.specs.Numbers.{number_low, bytes_low};
 ghost use Rattle.words.specs.Slices.{zeros, same};
 ghost use Rattle.replay.specs.Trace.{event_of, fine as fine_of, known as known_of};
 ghost use Rattle.replay.specs.State.{spread_of, entry_of, mark_of, is_mark as is_mark_of, noted, tidy as tidy_of};
-ghost use Rattle.replay.specs.Replay.{latest_of, closed as closed_of, told_of_lem};
+ghost use Rattle.replay.specs.Replay.{latest_of, closed as closed_of, told_of};
 
 use crate::{Latest, Login, Stood};
 
@@ -174,7 +174,7 @@ fn closed(c: u64, d: u64) -> bool
 // What the entry says of its login.
 pub fn told(e: &[u8]) -> Stood
     requires { length e.now ≡ 32 }
-    ensures { result ≡ told_of_lem e.now }
+    ensures { result ≡ told_of e.now }
 {
     if tidy(e) {
         let c = mark(e, 16);

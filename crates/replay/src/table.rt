@@ -1,7 +1,7 @@
 // The entries of a state: whether it is one, and finding a UUID's.
 ghost use Rattle.std.specs.Prelude.{◌≡◌, ◌<◌, length};
 ghost use Rattle.replay.specs.State.{is_state, stops as stops_of, place_of};
-ghost use Rattle.replay.specs.Replay.{told_at_lem};
+ghost use Rattle.replay.specs.Replay.{told_at};
 ghost use Rattle.replay.specs.Calls.{Stands};
 
 use crate::{Latest, Login, Stood, entry};
@@ -60,7 +60,7 @@ pub fn place(state: &[u8], uuid: &[u8]) -> usize
 
 fn told_at(state: &[u8], i: usize) -> Stood
     requires { length state.now ≡ 131072 }
-    ensures { result ≡ told_at_lem state.now i }
+    ensures { result ≡ told_at state.now i }
 {
     if i < 4096 {
         let p = 32 * i;

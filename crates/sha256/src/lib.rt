@@ -40,7 +40,7 @@ pub struct Block {
 }
 
 // The working variables, and the sixteen words of the schedule from the next one on.
-#[derive(Drop)]
+#[derive(Clone, Copy)]
 struct Work {
     v: Vars,
     w: Block,
@@ -48,7 +48,7 @@ struct Work {
 
 // What is kept of the bytes so far: the hash value of their whole blocks, their number modulo 2^64, and the bytes after the last whole
 // block, with zeros after them.
-#[derive(Drop)]
+#[derive(Clone, Copy)]
 pub struct Running {
     pub v: Vars,
     pub len: u64,
@@ -56,7 +56,7 @@ pub struct Running {
 }
 
 // The hash of the inner key and the message so far, and the hash value after the outer key.
-#[derive(Drop)]
+#[derive(Clone, Copy)]
 pub struct Mac {
     pub inner: Running,
     pub outer: Vars,

@@ -10,7 +10,7 @@ use sha256::Vars;
 use sha256::compression::{again, digest};
 
 // A hash value, and how many compressions led there.
-#[derive(Drop)]
+#[derive(Clone, Copy)]
 pub struct Stretcher {
     pub v: Vars,
     pub count: u64,

@@ -15,13 +15,13 @@ pub loop-n-smaller : goal.loop-n-smaller
 loop-n-smaller c = omega arith
 
 pub loop-n-preserved : goal.loop-n-preserved
-loop-n-preserved c = reserving_next c.args.state.now c.args.trace.now _ _ c.loop-n.invariant _ c.reserve_one.ensures.0 _ (omega arith) c.if-reserve_one.true c.reserve_one.ensures.1 (search rules)
+loop-n-preserved c = reserving_next c.args.state.now c.args.trace.now _ _ c.loop-n.invariant _ c.reserve_one.ensures.answer _ (omega arith) c.if-reserve_one.true c.reserve_one.ensures.memory (search rules)
 
 pub shape_of-state-else-reserve_one : goal.shape_of-state-else-reserve_one
 shape_of-state-else-reserve_one c = (search rules)
 
 pub returns-else-reserve_one : goal.returns-else-reserve_one
-returns-else-reserve_one c = reserving_stop c.args.state.now c.args.trace.now _ _ c.loop-n.invariant _ c.reserve_one.ensures.0 _ c.if-reserve_one.false c.reserve_one.ensures.1
+returns-else-reserve_one c = reserving_stop c.args.state.now c.args.trace.now _ _ c.loop-n.invariant _ c.reserve_one.ensures.answer _ c.if-reserve_one.false c.reserve_one.ensures.memory
 
 pub shape_of-state : goal.shape_of-state
 shape_of-state c = c.loop-n.invariant.long ∙ sym c.loop-n.invariant.old

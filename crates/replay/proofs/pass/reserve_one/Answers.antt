@@ -26,14 +26,14 @@ unfolding with_place
 returns-then-i-lt4096 c =
     let s = c.args.state.now in
     let r = c.args.r.now in
-    let i = c.place-i.result in (
-      goes s r _ c.fine.ensures i c.if-fine.true c.place-i.ensures c.if-i-lt4096.true,
-      put_is s _ (kept_for (take 16 r) (entry_at s i)) i (c.keep.ensures ∙ ap (kept_for (take 16 r)) (part_is s i))
-          ∙ ap (λ k. put s k (kept_for (take 16 r) (entry_at s k))) c.place-i.ensures,
-    )
+    let i = c.place-i.result in record {
+      answer = goes s r _ c.fine.ensures i c.if-fine.true c.place-i.ensures c.if-i-lt4096.true;
+      memory = put_is s _ (kept_for (take 16 r) (entry_at s i)) i (c.keep.ensures ∙ ap (kept_for (take 16 r)) (part_is s i))
+          ∙ ap (λ k. put s k (kept_for (take 16 r) (entry_at s k))) c.place-i.ensures;
+    }
 
 pub returns-then-fine : goal.returns-then-fine
-returns-then-fine c = (no_place c.args.state.now c.args.r.now _ c.fine.ensures _ c.if-fine.true c.place-i.ensures c.if-i-lt4096.false, refl)
+returns-then-fine c = record { answer = no_place c.args.state.now c.args.r.now _ c.fine.ensures _ c.if-fine.true c.place-i.ensures c.if-i-lt4096.false; memory = refl }
 
 pub returns : goal.returns
-returns c = (not_in c.args.state.now c.args.r.now _ c.fine.ensures c.if-fine.false, refl)
+returns c = record { answer = not_in c.args.state.now c.args.r.now _ c.fine.ensures c.if-fine.false; memory = refl }

@@ -14,5 +14,5 @@ returns c =
     let a = c.args in
     record {
       long = c.requires;
-      is_answer = stands_at a.state.now a.uuid.now _ _ (omega arith) c.place-i.ensures c.told_at_lem.ensures;
+      is_answer = stands_at a.state.now a.uuid.now _ _ (omega arith) c.place-i.ensures c.told_at.ensures;
     }

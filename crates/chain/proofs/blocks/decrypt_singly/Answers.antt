@@ -1,0 +1,44 @@
+-- `chain::blocks::decrypt_singly` meets its contract: after j turns the memory has the definition's first j blocks of text, and then
+-- the rest of the cipher text; the count has gone on by j.
+use Rattle.std.proofs.Common.{◌≡◌, ℕ, ◌+◌, ◌*◌, ◌/◌, ◌%◌, ◌^◌, List, ◌++◌, length, drop, ap, ◌∙◌, ap₂, arith}
+use Rattle.words.specs.Numbers.{Bytes}
+use Rattle.words.proofs.ByteLaws.{bytes_of}
+use Rattle.twofish.specs.Twofish.{block_bytes}
+use Rattle.twofish.specs.Tabled.{tabled_decrypt}
+use Rattle.chain.specs.Blocks.{on_bytes, mode_d}
+use Rattle.chain.proofs.MemoryLaws.{all_decrypted}
+use Rattle.chain.proofs.Through.{taken, through_d}
+use Rattle.chain.proofs.Turns.{turned_start, turned_end, decrypt_turn}
+use Rattle.chain.proofs.blocks.decrypt_singly.Goals as goal
+
+pub loop-done-init : goal.loop-done-init
+loop-done-init c =
+    let o = c.well_formed in
+    (turned_start _ _ _ _ _ (omega arith) (record { fa = omega (arith, o); fb = omega (arith, o); fc = omega (arith, o); fd = omega (arith, o) }), omega arith, omega arith)
+
+pub loop-done-preserved : goal.loop-done-preserved
+loop-done-preserved c =
+    let u = c.decrypt-prev in
+    let l = c.loop-done in
+    let less = c.loop-done-test.true in
+    let a = c.args in
+    let bytes : Bytes a.work.now = bytes_of a.work.now (λ i. omega (arith, c.slice_known-1.given i)) in (
+      decrypt_turn a.mode _ _ _ a.work.now bytes _ _ l.invariant.0 (omega (arith, less)) (omega arith) (omega (arith, less))
+          u.result u.new.b u.ensures,
+      omega (arith, less),
+      omega (arith, l.invariant.2, c.wrapping_add_u64-c.ensures.value),
+    )
+
+pub returns : goal.returns
+returns c =
+    let a = c.args in
+    let l = c.loop-done in
+    let d = mode_d a.mode (on_bytes (tabled_decrypt a.g0.now a.g1.now a.g2.now a.g3.now a.k.now)) in
+    let w = a.work.now in
+    let n = length w / 16 in
+    let p = block_bytes a.first in
+    let e : l.done ≡ n = omega (arith, l.invariant.1, c.loop-done-test.false) in
+    all_decrypted d p w a.count
+    (turned_end d taken n p w l.invariant.0 (omega (arith, c.loop-done-test.false))
+    ∙ ap₂ (λ (x : List ℕ) (i : ℕ). x ++ drop i w) (through_d d n p w) (ap (λ (x : ℕ). 16 * x) e))
+    (l.invariant.2 ∙ ap (λ (x : ℕ). (a.count + x) % 2 ^ 64) e)

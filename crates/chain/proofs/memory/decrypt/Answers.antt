@@ -1,0 +1,38 @@
+-- `chain::memory::decrypt` meets its contract: `blocks::decrypt`, with the tables that the key makes.
+use Rattle.std.proofs.Common.{ℕ, List, sym, ◌∙◌, subst, ap₂, rules}
+use Rattle.twofish.specs.Twofish.{decrypt_block}
+use Rattle.chain.specs.Decryption.{Decryption}
+use Rattle.chain.specs.Memory.{Handed}
+use Rattle.chain.specs.Blocks.{mode_d, decrypted_blocks}
+use Rattle.chain.proofs.MemoryLaws.{refused_decrypt, decrypted_here}
+use Rattle.chain.proofs.TwofishLaws.{tabled_dec, iv_bytes}
+use Rattle.chain.proofs.memory.decrypt.Goals as goal
+
+pub returns-then-work-ne0 : goal.returns-then-work-ne0
+returns-then-work-ne0 c =
+    let a = c.args in
+    refused_decrypt (mode_d a.mode (decrypt_block a.key.now)) a.iv.now a.work.now a.count c.if-work-ne0.true (search rules)
+
+pub returns : goal.returns
+returns c =
+    let a = c.args in
+    let same =
+    tabled_dec a.key.now
+    (record {
+      t0_is = c.table-t0.ensures;
+      t1_is = c.table-t1.ensures;
+      s_is = c.box_key-s.ensures;
+      k_is = c.subkeys-k.ensures;
+      g0_is = c.fill-g0.ensures;
+      g1_is = c.fill-g1.ensures;
+      g2_is = c.fill-g2.ensures;
+      g3_is = c.fill-g3.ensures;
+    })
+    in
+    let begun = iv_bytes a.iv.now (search rules) c.start.ensures in
+    let all =
+    ap₂ (λ (f : List ℕ → List ℕ) (p : List ℕ). decrypted_blocks (mode_d a.mode f) p a.work.now a.count) same begun
+    ∙ sym (decrypted_here _ a.iv.now a.work.now a.count c.if-work-ne0.false)
+    in
+    let u = c.decrypt in
+    subst (λ (s : Decryption). Handed s u.new.work u.result) all u.ensures
