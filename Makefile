@@ -4,14 +4,15 @@
 # make install     puts library, header, pkg-config file, program, man pages and what shells need to
 #                  complete talc's words into PREFIX
 # make uninstall   removes these files from there
-# make clean       removes all that was built; the next make proves from nothing
-# make test        proves all from nothing, tries it as it is linked, and ends with the verdict
+# make clean       removes all that was built here
+# make test        proves all, tries it as it is linked, and ends with the verdict
 # make bench       times the proved code beside other libraries (docs/BENCHMARKS.md)
 # make agree       compares the lower layers with libgcrypt and nettle, where they are there
 #
-# What has not changed since it was built is neither proved nor built again; make test starts from
-# nothing. PREFIX is /usr/local if not given. DESTDIR goes before every folder; BINDIR, LIBDIR,
-# INCLUDEDIR, MANDIR, PKGCONFIGDIR and SHAREDIR can be given by themselves.
+# What has not changed since it was built is neither proved nor built again. make test proves what
+# no make test on this machine has proved, of the same files, and runs every test. PREFIX is
+# /usr/local if not given. DESTDIR goes before every folder; BINDIR, LIBDIR, INCLUDEDIR, MANDIR,
+# PKGCONFIGDIR and SHAREDIR can be given by themselves.
 #
 # All need rt (the Rattle toolchain), cargo, gcc and make, and no network; on a machine that isn't
 # x86-64, also what tools/elsewhere says. make test needs pkg-config too.
@@ -61,7 +62,7 @@ talc: $(PROGRAM)
 # What fails leaves nothing that the next make takes for good.
 .DELETE_ON_ERROR:
 
-# rt and cargo take all processors by themselves, and two rts get into each other's way.
+# rt and cargo take all processors by themselves, and of two rts one waits for the other.
 .NOTPARALLEL:
 
 # None of make's own rules is used, and to look through them for every file takes half a second.
@@ -74,7 +75,7 @@ unexport TALCFEATHER_ARCHIVE CARGO_BUILD_TARGET
 .SECONDEXPANSION:
 $(LIBRARY) $(PROBE): target/staticlib/lib%.a: $$(call sources,$$*)
 	@mkdir -p target && touch target/began
-	rt staticlib $*
+	tools/archive $*
 	@changed=$$(find $$(tools/sources $*) -prune -newer target/began) && [ -z "$$changed" ] || \
 		{ echo "make again: while it was proved, these changed: $$changed" >&2; exit 1; }
 
@@ -129,7 +130,7 @@ uninstall:
 		$(call to,$(BASH)/talc) $(call to,$(ZSH)/_talc) $(call to,$(FISH)/talc.fish)
 
 clean:
-	rm -rf target rust/target
+	rm -rf target rust/target crates/*/out
 
 test:
 	@tools/test

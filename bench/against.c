@@ -11,14 +11,9 @@
 #include "contenders.h"
 #include "contest.h"
 
-/* How the library's own functions take a slice. */
-struct slice {
-    const uint8_t *bytes;
-    size_t length;
-};
-
+/* The library's own functions take a slice as its start and its length. */
 #define SIDE(side)                                                                                 \
-    void side##_mac(uint8_t out[32], const uint8_t l[32], const struct slice *body);               \
+    void side##_mac(uint8_t out[32], const uint8_t l[32], const uint8_t *body, size_t n);          \
     uint32_t side##_talc_judge(const uint8_t *body, size_t n, uint8_t answer[16]);                 \
     uint32_t side##_talc_walk(const uint8_t *body, size_t n, size_t place, bool in_record,         \
                               uint8_t answer[72]);                                                 \
@@ -47,8 +42,7 @@ struct slice {
     {                                                                                              \
         uint8_t l[32];                                                                             \
         key_number(l, 2);                                                                          \
-        struct slice all = {body, body_len};                                                       \
-        side##_mac(out, l, &all);                                                                  \
+        side##_mac(out, l, body, body_len);                                                        \
         if (memcmp(out, safe + body_len + 168, 32) != 0)                                           \
             stop("the HMAC differs from the safe's");                                              \
     }                                                                                              \

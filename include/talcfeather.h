@@ -99,10 +99,9 @@
  * TALC_READ_STACK and so on are bounds on the stack that each call takes, in
  * bytes. They are measured, not proved: a test runs each call in each of its
  * outcomes on a painted stack, and holds it to its bound, and the bound to
- * what was seen: some 54,100 bytes for read, 54,000 for write, 53,700 for
- * judge and find, 54,600 for export, and under 300 for the others. A thread
- * that clears its stack as "Secrets" says needs TALC_CLEAR_STACK, which is
- * more.
+ * what was seen: some 54,200 bytes for read and write, 53,800 for judge and
+ * find, 54,600 for export, and under 300 for the others. A thread that clears
+ * its stack as "Secrets" says needs TALC_CLEAR_STACK, which is more.
  *
  * ------------------------------------------------------------------------
  * Secrets

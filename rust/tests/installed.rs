@@ -13,13 +13,16 @@ use std::process::{Command, Output};
 use std::sync::{Mutex, PoisonError};
 
 /// The files below the prefix, and their modes.
-const INSTALLED: [(&str, u32); 6] = [
+const INSTALLED: [(&str, u32); 9] = [
     ("bin/talc", 0o755),
     ("include/talcfeather.h", 0o644),
     ("lib/libtalcfeather.a", 0o644),
     ("lib/pkgconfig/talcfeather.pc", 0o644),
+    ("share/bash-completion/completions/talc", 0o644),
+    ("share/fish/vendor_completions.d/talc.fish", 0o644),
     ("share/man/man1/talc.1", 0o644),
     ("share/man/man3/talcfeather.3", 0o644),
+    ("share/zsh/site-functions/_talc", 0o644),
 ];
 
 fn root() -> PathBuf {
@@ -91,7 +94,7 @@ fn run(goal: &str, variables: &[OsString]) -> Output {
     let mut arguments: Vec<&OsStr> = vec!["--dry-run".as_ref(), goal.as_ref()];
     arguments.extend(variables.iter().map(OsString::as_os_str));
     let planned = text(make(&arguments).stdout);
-    assert!(!planned.contains("rt staticlib"), "the archive is old: run `make library` first");
+    assert!(!planned.contains("tools/archive"), "the archive is old: run `make library` first");
     make(&arguments[1..])
 }
 
@@ -161,6 +164,16 @@ fn what_is_there() {
         let (there, here) = (fs::read(folder.0.join(there)), fs::read(root().join(here)));
         assert!(there.unwrap() == here.unwrap(), "the same bytes");
     }
+    let shells = [
+        ("bash", "bash-completion/completions/talc"),
+        ("fish", "fish/vendor_completions.d/talc.fish"),
+        ("zsh", "zsh/site-functions/_talc"),
+    ];
+    for (shell, file) in shells {
+        let there = fs::read_to_string(folder.0.join("share").join(file)).unwrap();
+        let told = built(folder.0.join("bin/talc")).args(["completion", shell]).output().unwrap();
+        assert!(there == text(told.stdout), "{file} is what talc completion {shell} says");
+    }
     for (page, name) in [("man1/talc.1", "talc"), ("man3/talcfeather.3", "talcfeather")] {
         let there = fs::read_to_string(folder.0.join("share/man").join(page)).unwrap();
         let made = Command::new(root().join("tools/man")).arg(name).output().unwrap();
@@ -229,7 +242,7 @@ fn below_another_root() {
 #[test]
 fn folders_of_their_own() {
     let folder = Folder::new("folders of their own");
-    let named = ["BINDIR", "LIBDIR", "INCLUDEDIR", "MANDIR", "PKGCONFIGDIR"];
+    let named = ["BINDIR", "LIBDIR", "INCLUDEDIR", "MANDIR", "PKGCONFIGDIR", "SHAREDIR"];
     let mut variables = vec![set("PREFIX", &folder.0.join("unused"))];
     variables.extend(named.map(|name| set(name, &folder.0.join("a").join(name))));
     made("install", &variables);
@@ -240,6 +253,9 @@ fn folders_of_their_own() {
         ("MANDIR/man1/talc.1", 0o644),
         ("MANDIR/man3/talcfeather.3", 0o644),
         ("PKGCONFIGDIR/talcfeather.pc", 0o644),
+        ("SHAREDIR/bash-completion/completions/talc", 0o644),
+        ("SHAREDIR/fish/vendor_completions.d/talc.fish", 0o644),
+        ("SHAREDIR/zsh/site-functions/_talc", 0o644),
     ];
     assert_eq!(folder.files(), names(&there, "a/"));
     assert_eq!(example(&folder.0.join("a/PKGCONFIGDIR"), &folder), logins());

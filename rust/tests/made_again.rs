@@ -10,22 +10,26 @@ use std::path::{Path, PathBuf};
 use std::process::{Command, Output};
 use std::time::{Duration, SystemTime};
 
-/// What `rt staticlib` does, by the file `does`: well, nothing, half or late.
+/// What `rt lib` does in a crate's folder, by the file `does`: well, nothing, half or late. What it
+/// keeps for itself goes into that crate's out/, and into out/ of each below.
 const RT: &str = r#"#!/bin/sh
 here=$(dirname "$0")
 if [ "$1" = doc ]; then
-    echo "$here/docs/START-HERE.md"
+    echo "$here/START-HERE.md"
     exit
 fi
-echo "$*" >>"$here/asked"
-mkdir -p target/staticlib
+name=$(basename "$PWD")
+echo "$name: $*" >>"$here/asked"
+rm -rf ../words/out
+mkdir -p out ../words/out/rlib
+echo kept >../words/out/rlib/lib.rt
 case $(cat "$here/does") in
-well) echo whole >"target/staticlib/lib$2.a" ;;
+well) echo whole >"out/lib$name.a" ;;
 nothing) exit 1 ;;
-half) echo half >"target/staticlib/lib$2.a"; exit 1 ;;
+half) echo half >"out/lib$name.a"; exit 1 ;;
 late)
-    touch -t 203801010000 crates/words/src/lib.rt
-    echo whole >"target/staticlib/lib$2.a"
+    touch -t 203801010000 ../words/src/lib.rt
+    echo whole >"out/lib$name.a"
     ;;
 esac
 "#;
@@ -47,10 +51,11 @@ impl Tree {
         let name = format!("talc-{name}-{}", std::process::id());
         let tree = Tree(std::env::temp_dir().join(name));
         let root = Path::new(env!("CARGO_MANIFEST_DIR")).join("..");
-        for folder in ["", "rust", "rust/talc"] {
+        for folder in ["", "rust", "rust/talc", "crates"] {
             fs::create_dir_all(tree.0.join(folder)).unwrap();
         }
-        tree.copy(&root, &["Makefile", "crates.txt", "crates", "tools", "include"]);
+        tree.copy(&root, &["Makefile", "crates.txt", "tools", "include"]);
+        tree.copy_crates(&root);
         tree.copy(&root, &["rust/src", "rust/build.rs", "rust/link.rs", "rust/Cargo.toml"]);
         tree.copy(&root, &["rust/Cargo.lock", "rust/talc/src", "rust/talc/Cargo.toml"]);
         let made = [[LIBRARY, PROBE], PROGRAMS, PAGES].concat();
@@ -69,6 +74,20 @@ impl Tree {
             let mut cp = Command::new("cp");
             let copied = cp.arg("-R").arg(root.join(name)).arg(self.0.join(name)).status();
             assert!(copied.expect("cp").success());
+        }
+    }
+
+    /// All but what rt keeps in there, which can take gigabytes.
+    fn copy_crates(&self, root: &Path) {
+        for entry in fs::read_dir(root.join("crates")).unwrap() {
+            let name = entry.unwrap().file_name().into_string().unwrap();
+            fs::create_dir(self.0.join("crates").join(&name)).unwrap();
+            for part in ["src", "specs", "proofs", "must-fail"] {
+                let part = format!("crates/{name}/{part}");
+                if root.join(&part).exists() {
+                    self.copy(root, &[&part]);
+                }
+            }
         }
     }
 
@@ -132,7 +151,8 @@ fn hours_ago(hours: u64) -> SystemTime {
     SystemTime::now() - Duration::from_secs(hours * 3600)
 }
 
-const TALCFEATHER: &str = "staticlib talcfeather\n";
+const TALCFEATHER: &str = "talcfeather: lib --cpu x86-64\n";
+const PROBED: &str = "probe: lib --cpu x86-64\n";
 
 #[test]
 fn what_it_is_made_from() {
@@ -158,8 +178,11 @@ fn what_it_is_not_made_from() {
     for newer in ["crates/words/must-fail", "crates/probe", "crates/try_hash", "tools"] {
         tree.all_at(&tree.0.join(newer), hours_ago(1));
     }
+    // Nor is what rt keeps, or that it moved it.
+    fs::create_dir_all(tree.0.join("crates/words/out/rlib")).unwrap();
+    fs::write(tree.0.join("crates/words/out/rlib/lib.rt"), "").unwrap();
     assert_eq!(tree.made("library"), "");
-    assert_eq!(tree.made("probe"), "staticlib probe\n");
+    assert_eq!(tree.made("probe"), PROBED);
     tree.at("crates/rows/src/lib.rt", hours_ago(0));
     assert_eq!(tree.made("probe"), "");
     // What an editor leaves, or a person, is no source, though it makes its folder newer.
@@ -175,18 +198,21 @@ fn a_file_that_went() {
     fs::remove_file(tree.0.join("crates/uuids/src/table.rt")).unwrap();
     assert_eq!(tree.made("library"), TALCFEATHER);
     assert_eq!(tree.made("library"), "");
-    assert_eq!(tree.made("probe"), "staticlib probe\n");
+    assert_eq!(tree.made("probe"), PROBED);
 }
 
 /// No archive of a proof that failed is taken for good, whatever was left of it.
 #[test]
 fn a_proof_that_fails() {
     let tree = Tree::new("fails");
-    for (does, left) in [("nothing", true), ("half", false), ("late", false)] {
+    for (does, left) in [("nothing", true), ("half", true), ("late", false)] {
         tree.at("crates/words/src/lib.rt", hours_ago(1));
+        fs::write(tree.0.join(LIBRARY), "older").unwrap();
+        tree.at(LIBRARY, hours_ago(2));
         assert!(!tree.make("library", does).status.success(), "{does}");
         assert_eq!(tree.asked(), TALCFEATHER);
-        assert_eq!(tree.has(LIBRARY), left, "{does}");
+        let library = fs::read(tree.0.join(LIBRARY)).ok();
+        assert_eq!(library.as_deref(), left.then_some(&b"older"[..]), "{does}");
         tree.at("crates/words/src/lib.rt", hours_ago(1));
         assert_eq!(tree.made("library"), TALCFEATHER, "after {does}");
         assert_eq!(tree.made("library"), "");
@@ -200,7 +226,12 @@ fn from_nothing() {
     assert_eq!(tree.made("clean"), "");
     assert!(!tree.has("target") && !tree.has("rust/target") && tree.has("rust/src"));
     assert_eq!(tree.made("library"), TALCFEATHER);
-    assert_eq!(tree.made("probe"), "staticlib probe\n");
+    assert!(tree.has("crates/words/out") && tree.has("crates/talcfeather/out"));
+    assert_eq!(tree.made("clean"), "");
+    assert!(!tree.has("crates/words/out") && !tree.has("crates/talcfeather/out"));
+    assert!(tree.has("crates/words/src"));
+    assert_eq!(tree.made("library"), TALCFEATHER);
+    assert_eq!(tree.made("probe"), PROBED);
     fs::remove_dir_all(tree.0.join("crates/uuids")).unwrap();
     tree.at("crates.txt", hours_ago(0));
     assert!(!tree.make("library", "well").status.success(), "a crate that crates.txt has is gone");
@@ -234,7 +265,7 @@ fn program_and_pages() {
             let expected = again.contains(&command);
             assert_eq!(planned.contains(command), expected, "{newer} is newer: {command}");
         }
-        assert!(!planned.contains("rt staticlib"));
+        assert!(!planned.contains("tools/archive"));
         tree.at(newer, hours_ago(if newer == LIBRARY { 2 } else { 3 }));
     }
 }
@@ -246,7 +277,7 @@ fn before_it_is_installed() {
     assert_eq!(tree.made("clean"), "");
     let planned = tree.planned("install");
     let at = |command: &str| planned.find(command).unwrap_or_else(|| panic!("no {command}"));
-    assert!(at("rt staticlib talcfeather") < at(CARGO));
+    assert!(at("tools/archive talcfeather") < at(CARGO));
     for made in [CARGO, PAGE_1, PAGE_3, "tools/pc"] {
         assert!(at(made) < at("install -d"), "{made}");
     }

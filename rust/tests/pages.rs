@@ -137,7 +137,7 @@ fn statuses() {
         .filter(|line| line.starts_with(|c: char| c.is_ascii_digit()))
         .map(|line| line.split("  ").next().unwrap())
         .collect();
-    assert_eq!(statuses[..2], ["0", "1 to 14"]);
+    assert_eq!(statuses[..2], ["0", "1"]);
     for text in seen(&root(), "talc") {
         let (told, _) = section(&text, "EXIT STATUS").split_once("SEE ALSO").unwrap();
         let told = told
