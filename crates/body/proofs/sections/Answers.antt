@@ -3,7 +3,7 @@ use mathlib.Core.Path.{sym, ◌∙◌}
 use native.Mathlib.Omega.{arith}
 use Rattle.fields.proofs.Outcomes.{forward}
 use Rattle.body.proofs.Stands.{stands_start, stands_broken, stands_took, stands_used, stands_ended, at_most_one}
-use borrow.Enum.Refused.{opened}
+use borrow.Author.Rules.{rules}
 use Rattle.body.proofs.sections.Goals as goal
 
 pub loop-c-init : goal.loop-c-init
@@ -13,7 +13,7 @@ pub returns-in_default : goal.returns-in_default
 returns-in_default c =
     let s = c.args.body.now in
     let at = c.loop-c in
-    stands_broken s at.c at.x at.headers at.records at.invariant _ c.step.ensures c.loop-c-test.true (opened c.in_default.in_default-own.keys2)
+    stands_broken s at.c at.x at.headers at.records at.invariant _ c.step.ensures c.loop-c-test.true (search rules)
 
 pub overflow_add-headers : goal.overflow_add-headers
 overflow_add-headers c =

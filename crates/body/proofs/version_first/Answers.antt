@@ -5,13 +5,13 @@ use Rattle.text.proofs.Tests.{tests}
 use Rattle.fields.specs.Step.{start, step_of}
 use Rattle.fields.proofs.Outcomes.{forward}
 use Rattle.body.proofs.FirstField.{version_took, version_none}
-use borrow.Enum.Refused.{opened}
+use borrow.Author.Rules.{rules}
 use Rattle.body.proofs.version_first.Goals as goal
 
 pub returns-in_default : goal.returns-in_default
 returns-in_default c =
     let s = c.args.body.now in
-    version_none s _ (c.step.ensures ∙ ap (step_of s) c.start.ensures) (opened c.in_default.in_default-own.keys2)
+    version_none s _ (c.step.ensures ∙ ap (step_of s) c.start.ensures) (search rules)
 
 pub returns-then-kind-ne0 : goal.returns-then-kind-ne0
 returns-then-kind-ne0 c =

@@ -8,7 +8,6 @@ use Rattle.body.specs.Decision.{is_well_formed}
 use Rattle.logins.specs.Export.{room_for}
 use Rattle.logins.proofs.Answered.{unwritten, has_room, export_formed, export_not}
 use borrow.Author.Rules.{rules}
-use borrow.Enum.Refused.{opened}
 use Rattle.logins.proofs.export.Goals as goal
 
 pub check-requires : goal.check-requires
@@ -22,7 +21,7 @@ returns-in_default c =
       bytes = bytes_of g.body.now (λ i. omega (arith, c.type_inv.body i));
       small = search rules;
       is_answer = c.room_for-a.ensures ∙ ap (room_for (length g.output.now)) c.check.ensures ∙ sym (export_formed g.body.now (length g.output.now) f);
-      is_after = unwritten c.room_for-a.result g.time g.body.now g.output.now (opened c.in_default.in_default-own.keys2);
+      is_after = unwritten c.room_for-a.result g.time g.body.now g.output.now (search rules);
     }
 
 pub fill-requires : goal.fill-requires

@@ -17,9 +17,9 @@ returns-in-Refused c =
     let w = writes_refused a.passphrase.now a.iter a.body.now (length a.output.now) a.salt.now a.k.now a.l.now a.iv.now _
     c.writing-t.ensures c.in-Refused.is c.zero.ensures in
     record {
-      values = values_of (omega (arith, c.known-arg-1.given), c.known.ensures.1) (omega (arith, c.well_formed))
-          (omega (arith, c.known-arg-2-1.given), c.known-2.ensures.1) (omega (arith, c.known-arg-3-1.given), c.known-3.ensures.1)
-          (omega (arith, c.known-arg-4-1.given), c.known-4.ensures.1) (bytes_of a.body.now (λ i. omega (arith, c.type_inv.body i)));
+      values = values_of (omega arith, c.known.ensures.1) (omega (arith, c.well_formed))
+          (omega arith, c.known-2.ensures.1) (omega arith, c.known-3.ensures.1)
+          (omega arith, c.known-4.ensures.1) (bytes_of a.body.now (λ i. omega (arith, c.type_inv.body i)));
       number = w.0;
       output = w.1;
     }
@@ -31,9 +31,9 @@ returns-in-Passed c =
     let w = writes_laid a.passphrase.now a.iter a.body.now (length a.output.now) a.salt.now a.k.now a.l.now a.iv.now
     c.writing-t.ensures c.in-Passed.is l c.file.ensures in
     record {
-      values = values_of (omega (arith, c.known-arg-1.given), c.known.ensures.1) (omega (arith, c.well_formed))
-          (omega (arith, c.known-arg-2-1.given), c.known-2.ensures.1) (omega (arith, c.known-arg-3-1.given), c.known-3.ensures.1)
-          (omega (arith, c.known-arg-4-1.given), c.known-4.ensures.1) (bytes_of a.body.now (λ i. omega (arith, c.type_inv.body i)));
+      values = values_of (omega arith, c.known.ensures.1) (omega (arith, c.well_formed))
+          (omega arith, c.known-2.ensures.1) (omega arith, c.known-3.ensures.1)
+          (omega arith, c.known-4.ensures.1) (bytes_of a.body.now (λ i. omega (arith, c.type_inv.body i)));
       number = w.0;
       output = w.1;
     }

@@ -4,7 +4,7 @@ use native.Mathlib.Omega.{arith}
 use borrow.Author.Tests.{ne_eqb}
 use Rattle.fields.proofs.Outcomes.{forward, data_inside}
 use Rattle.body.proofs.Keeps.{keeps_start, keeps_stop, keeps_else, keeps_end, keeps_took}
-use borrow.Enum.Refused.{opened}
+use borrow.Author.Rules.{rules}
 use Rattle.body.proofs.records.record_at.Goals as goal
 
 pub loop-c-init : goal.loop-c-init
@@ -14,7 +14,7 @@ pub returns-in_default : goal.returns-in_default
 returns-in_default c =
     let g = c.args in
     let at = c.loop-c in
-    keeps_else g.body.now g.at at.c at.x at.n at.invariant _ c.step.ensures (opened c.in_default.in_default-own.keys2)
+    keeps_else g.body.now g.at at.c at.x at.n at.invariant _ c.step.ensures (search rules)
 
 pub returns-then-kind : goal.returns-then-kind
 returns-then-kind c =

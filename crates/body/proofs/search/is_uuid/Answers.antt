@@ -4,13 +4,13 @@ use mathlib.Core.Bool.{Bool, ◌&&◌}
 use lib.Dec.{eqb}
 use borrow.Author.Tests.{eq-eqb, ne_eqb}
 use Rattle.body.proofs.UuidValue.{uuid_took, uuid_else}
-use borrow.Enum.Refused.{opened}
+use borrow.Author.Rules.{rules}
 use Rattle.body.proofs.search.is_uuid.Goals as goal
 
 pub returns-in_default : goal.returns-in_default
 returns-in_default c =
     let g = c.args in
-    uuid_else g.d.now g.low g.high c.value_of.result c.value_of.ensures (opened c.in_default.in_default-own.keys2)
+    uuid_else g.d.now g.low g.high c.value_of.result c.value_of.ensures (search rules)
 
 pub returns-then-x-low : goal.returns-then-x-low
 returns-then-x-low c =

@@ -3,7 +3,7 @@ use mathlib.Core.Path.{sym, ◌∙◌}
 use native.Mathlib.Omega.{arith}
 use Rattle.fields.proofs.Outcomes.{forward, data_inside}
 use Rattle.body.proofs.Hunt.{hunts_start, hunts_stop, hunts_else, hunts_inside, hunts_found, hunts_next}
-use borrow.Enum.Refused.{opened}
+use borrow.Author.Rules.{rules}
 use Rattle.body.proofs.search.seek_on.Goals as goal
 
 pub loop-c-init : goal.loop-c-init
@@ -13,7 +13,7 @@ pub returns-in_default : goal.returns-in_default
 returns-in_default c =
     let g = c.args in
     let at = c.loop-c in
-    hunts_else g.body.now g.low g.high _ at.c at.x at.invariant _ c.step.ensures (opened c.in_default.in_default-own.keys2)
+    hunts_else g.body.now g.low g.high _ at.c at.x at.invariant _ c.step.ensures (search rules)
 
 pub overflow_add-end : goal.overflow_add-end
 overflow_add-end c =

@@ -1,6 +1,7 @@
 -- `chain::blocks::decrypt` meets its contract: after j turns the memory has the definition's first 3 j blocks of text, and then the rest
 -- of the cipher text, which `decrypt_singly` decrypts; the count has gone on by 3 j.
 use Rattle.std.proofs.Common.{◌≡◌, ℕ, ◌+◌, ◌-◌, ◌*◌, ◌/◌, ◌%◌, ◌^◌, length, ap, ◌∙◌, arith}
+use borrow.Author.Rules.{rules}
 use Rattle.words.specs.Numbers.{Bytes}
 use Rattle.words.proofs.ByteLaws.{bytes_of}
 use Rattle.twofish.specs.Twofish.{block_bytes}
@@ -25,7 +26,7 @@ loop-turn-preserved c =
     let l = c.loop-turn in
     let less = c.loop-turn-test.true in
     let a = c.args in
-    let bytes : Bytes a.work.now = bytes_of a.work.now (λ i. omega (arith, c.slice_known-1.given i)) in (
+    let bytes : Bytes a.work.now = bytes_of a.work.now (λ i. search rules) in (
       three_turn a.mode _ _ _ a.work.now bytes _ _ l.invariant.0 (omega (arith, less)) (omega arith) (omega (arith, less))
           u.result u.new.b u.ensures,
       omega (arith, less),

@@ -1,5 +1,6 @@
 -- `chain::blocks::encrypt` meets its contract: after j turns the memory has the definition's first j cipher blocks, and then what is left of the text.
 use Rattle.std.proofs.Common.{◌≡◌, ℕ, ◌*◌, ◌/◌, List, ◌++◌, length, drop, ◌∙◌, ap₂, arith}
+use borrow.Author.Rules.{rules}
 use Rattle.words.specs.Numbers.{Bytes}
 use Rattle.words.proofs.ByteLaws.{bytes_of}
 use Rattle.twofish.specs.Twofish.{block_bytes}
@@ -22,7 +23,7 @@ loop-j-preserved c =
     let l = c.loop-j in
     let less = c.loop-j-test.true in
     let a = c.args in
-    let bytes : Bytes a.work.now = bytes_of a.work.now (λ i. omega (arith, c.slice_known-1.given i)) in (
+    let bytes : Bytes a.work.now = bytes_of a.work.now (λ i. search rules) in (
       encrypt_turn a.mode _ _ _ a.work.now bytes _ _ l.invariant.0 (omega (arith, less)) (omega arith) (omega (arith, less))
           u.result u.new.b fine u.ensures,
       omega (arith, less),

@@ -9,6 +9,7 @@ use Rattle.words.specs.Slices.{zeros}
 use Rattle.safe.specs.V3.{stretched_v3}
 use Rattle.safe.specs.Laying.{head_of}
 use Rattle.safe.proofs.Laying.{head_is_long, new_long, new_is, body_laid, part_is, laid_refused, laid_done}
+use borrow.Author.Rules.{rules}
 use Rattle.safe.proofs.assemble.file.Goals as goal
 
 pub returns-then-first_marker-n : goal.returns-then-first_marker-n
@@ -21,13 +22,12 @@ returns-then-first_marker-n c =
     let o1 = c.head.new.output in
     let new = c.cbc_encrypt.new.to in
     let h : 200 + length body ≤ n = omega (arith, c.requires.holds) in
-    let lo : length o1 ≡ n = omega (arith, c.output-1.given) in
-    let ln : length new ≡ length (take (152 + length body - 152) (drop 152 o1)) = c.output-2-1.given.0 in
+    let lo : length o1 ≡ n = omega arith in
+    let ln : length new ≡ length (take (152 + length body - 152) (drop 152 o1)) = search rules in
     let e1 = c.head.ensures in
     let en = c.cbc_encrypt.ensures in
-    let l2 = c.output-2-1.given.1 in
     let o2 : List ℕ = take 152 o1 ++ (new ++ drop (152 + length body - 152) (drop 152 o1)) in
-    let l3 : length o2 ≡ n = omega (arith, l2, lo) in
+    let l3 : length o2 ≡ n = omega (arith, lo, ln) in
     laid_refused c.args.passphrase.now c.args.salt.now c.args.iter K c.args.l.now iv body n new _
     (new_is H K iv body o1 new n h c.requires.whole lo e1 ln en) (new_long H K iv body o1 new n h c.requires.whole lo e1 ln en) c.first_marker.ensures (part_is H K iv body o1 new n h c.requires.whole lo e1 ln en _ refl) c.if-first_marker-n.true (c.zero.ensures ∙ ap zeros l3)
 
@@ -44,8 +44,8 @@ returns c =
     let o1 = c.head.new.output in
     let new = c.cbc_encrypt.new.to in
     let h : 200 + length body ≤ n = omega (arith, c.requires.holds) in
-    let lo : length o1 ≡ n = omega (arith, c.output-1.given) in
-    let ln : length new ≡ length (take (152 + length body - 152) (drop 152 o1)) = c.output-2-1.given.0 in
+    let lo : length o1 ≡ n = omega arith in
+    let ln : length new ≡ length (take (152 + length body - 152) (drop 152 o1)) = search rules in
     let e1 = c.head.ensures in
     let en = c.cbc_encrypt.ensures in
     laid_done c.args.passphrase.now c.args.salt.now c.args.iter K c.args.l.now iv body n new _ _ _ h

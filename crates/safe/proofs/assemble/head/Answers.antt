@@ -14,16 +14,16 @@ use native.Mathlib.Omega.{arith}
 use Rattle.safe.proofs.assemble.head.Goals as goal
 
 pub lay-requires-4 : goal.lay-requires-4
-lay-requires-4 c = omega (arith, ap length c.key-check.ensures ∙ (key_sized _).long, c.output-3-1.given, c.output-2-1.given, c.output-1.given, c.requires.1)
+lay-requires-4 c = omega (arith, ap length c.key-check.ensures ∙ (key_sized _).long, c.requires.1)
 
 pub lay-requires-5 : goal.lay-requires-5
-lay-requires-5 c = omega (arith, c.wrap-keys.ensures.1, c.output-4-1.given, c.output-3-1.given, c.output-2-1.given, c.output-1.given, c.requires.1)
+lay-requires-5 c = omega (arith, c.wrap-keys.ensures.1, c.requires.1)
 
 pub lay-requires-6 : goal.lay-requires-6
-lay-requires-6 c = omega (arith, c.lay-arg-9-1.given, c.output-5-1.given, c.output-4-1.given, c.output-3-1.given, c.output-2-1.given, c.output-1.given, c.requires.1)
+lay-requires-6 c = omega (arith, c.requires.1)
 
 pub shape_of-output : goal.shape_of-output
-shape_of-output c = omega (arith, c.output-6-1.given, c.output-5-1.given, c.output-4-1.given, c.output-3-1.given, c.output-2-1.given, c.output-1.given)
+shape_of-output c = omega arith
 
 pub returns : goal.returns
 unfolding tag
@@ -38,6 +38,6 @@ returns c =
     let ec = c.key-check.ensures ∙ q.1 in
     let ek = c.wrap-keys.ensures.0 ∙ ap (λ (x : List ℕ). wrapped v3 x K L) (c.key-key.ensures ∙ q.0) in
     head_laid (stretched_v3 pass salt iter) salt iter K L c.args.iv.now _ _ _ (length c.args.output.now) c.requires.1 c.requires.0
-    (omega (arith, c.lay-arg-4-1.given)) (ap length c.key-check.ensures ∙ (key_sized _).long) c.wrap-keys.ensures.1 (omega (arith, c.lay-arg-9-1.given))
+    (omega arith) (ap length c.key-check.ensures ∙ (key_sized _).long) c.wrap-keys.ensures.1 (omega arith)
     (iter_bytes iter c.byte.ensures c.byte-2.ensures c.byte-3.ensures c.byte-4.ensures) ec ek
     c.lay.ensures c.lay-2.ensures c.lay-3.ensures c.lay-4.ensures c.lay-5.ensures c.lay-6.ensures

@@ -8,13 +8,14 @@ use Rattle.chain.specs.Memory.{decrypted_in_place, Handed}
 use Rattle.chain.specs.Twofish.{twofish_cipher}
 use Rattle.words.proofs.SliceLaws.{copied_whole}
 use Rattle.safe.proofs.Opened.{unwrapped}
+use borrow.Author.Rules.{rules}
 use Rattle.safe.proofs.decrypt.unwrap.Goals as goal
 
 pub slice_bounds-first_32-end : goal.slice_bounds-first_32-end
-slice_bounds-first_32-end c = sym (length-take-le 32 c.ecb_decrypt-count.new.work (omega (arith, c.w-4-1.given)))
+slice_bounds-first_32-end c = sym (length-take-le 32 c.ecb_decrypt-count.new.work (omega arith))
 
 pub returns : goal.returns
 returns c =
     let e = c.copy.ensures ∙ copied_whole 64 c.args.keys.now c.requires in
     let h : Handed (decrypted_in_place (ecb_d twofish_cipher c.args.key.now) (zeros 16) c.args.keys.now 0) _ _ = rw e at c.ecb_decrypt-count.ensures in
-    unwrapped c.args.key.now c.args.keys.now _ c.requires h c.first_32.ensures c.first_32-2.ensures c.w-4-1.given
+    unwrapped c.args.key.now c.args.keys.now _ c.requires h c.first_32.ensures c.first_32-2.ensures (search rules)

@@ -6,6 +6,7 @@ use lib.ListN.{length, take, drop, length-drop}
 use lib.Seq.{length-take-le, take_at, take_all, drop_at}
 use Rattle.file.specs.Layout.{split}
 use Rattle.safe.proofs.Verdicts.{unlocked}
+use borrow.Author.Rules.{rules}
 use Rattle.safe.proofs.open.unlocked.Goals as goal
 
 pub slice_bounds-decrypt-end-2 : goal.slice_bounds-decrypt-end-2
@@ -22,7 +23,7 @@ slice_bounds-settle-end-3 c =
     let n = length c.args.file.now - 200 in
     let ws = c.args.workspace.now in
     let w = c.decrypt-keys.new.work in
-    let g : length w ≡ length (take n ws) = c.workspace-1.given.0 in
+    let g : length w ≡ length (take n ws) = search rules in
     let lw : length w ≡ n = g ∙ length-take-le n ws c.requires.holds in
     sym (ap length (take_at w (drop n ws) n lw) ∙ lw)
 
@@ -33,7 +34,7 @@ returns c =
     let n = length file - 200 in
     let ws = c.args.workspace.now in
     let w = c.decrypt-keys.new.work in
-    let g : length w ≡ length (take n ws) = c.workspace-1.given.0 in
+    let g : length w ≡ length (take n ws) = search rules in
     let lw : length w ≡ n = g ∙ length-take-le n ws c.requires.holds in
     let d = length-drop (length file - 32) file in
     unlocked file c.args.key.now w _ _ c.args.compressions c.requires c.decrypt-keys.ensures lw

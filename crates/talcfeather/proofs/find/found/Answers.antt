@@ -5,11 +5,11 @@ use Rattle.words.proofs.ByteLaws.{bytes_of}
 use Rattle.body.specs.Find.{find_of}
 use Rattle.talcfeather.specs.Find.{found_of}
 use Rattle.fields.proofs.UuidValue.{always_uuid, uuid_exactly}
-use borrow.Enum.Refused.{opened}
+use borrow.Author.Rules.{rules}
 use Rattle.talcfeather.proofs.find.found.Goals as goal
 
 pub returns-in_default : goal.returns-in_default
-returns-in_default c = absurd (always_uuid c.args.uuid.now _ c.requires c.value_of.ensures (opened c.in_default.in_default-own.keys2))
+returns-in_default c = absurd (always_uuid c.args.uuid.now _ c.requires c.value_of.ensures (search rules))
 
 pub returns : goal.returns
 unfolding found_of

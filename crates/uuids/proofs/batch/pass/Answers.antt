@@ -3,7 +3,7 @@ use mathlib.Core.Path.{sym, ◌∙◌, subst}
 use native.Mathlib.Omega.{arith}
 use Rattle.uuids.specs.Table.{Looks}
 use Rattle.uuids.proofs.Passes.{passes_start, passes_over, passes_end, passes_known, passes_by, passes_in, found, over}
-use borrow.Enum.Refused.{opened}
+use borrow.Author.Rules.{rules}
 use Rattle.uuids.proofs.batch.pass.Goals as goal
 
 pub bounds-slots-first : goal.bounds-slots-first
@@ -64,7 +64,7 @@ loop-n-preserved-then-growing c =
     let x = c.loop-n in
     passes_in a.body.now a.base a.number a.limit x.slots x.at x.n x.growing x.next x.members x.invariant
     _ (found a.body.now x.at _ _ c.next_uuid.ensures c.in-At.is)
-    c.look_up-l.result c.look_up-l.ensures (opened c.in_default-l.in_default-l-own.keys2) _ c.take_in-growing.result c.take_in-growing.ensures c.if-growing.true
+    c.look_up-l.result c.look_up-l.ensures (search rules) _ c.take_in-growing.result c.take_in-growing.ensures c.if-growing.true
 
 pub loop-n-preserved : goal.loop-n-preserved
 loop-n-preserved c =
@@ -72,7 +72,7 @@ loop-n-preserved c =
     let x = c.loop-n in
     passes_by a.body.now a.base a.number a.limit x.slots x.at x.n x.growing x.next x.members x.invariant
     _ (found a.body.now x.at _ _ c.next_uuid.ensures c.in-At.is)
-    c.look_up-l.result c.look_up-l.ensures (opened c.in_default-l.in_default-l-own.keys2) _ c.take_in-growing.result c.take_in-growing.ensures c.if-growing.false
+    c.look_up-l.result c.look_up-l.ensures (search rules) _ c.take_in-growing.result c.take_in-growing.ensures c.if-growing.false
 
 pub shape_of-slots : goal.shape_of-slots
 shape_of-slots c = c.loop-n.invariant.table.fits.long ∙ sym c.requires.2.long
