@@ -456,12 +456,13 @@ mod terminal {
         assert_eq!(typed(&file, b"flo\x7f\x15floor 3\x7f2\n").0, 0, "rubbed out");
     }
 
-    /// Quit and end of file at once, in the midst of a line too.
+    /// Interrupt, quit and end of file at once, in the midst of a line too; suspend at its end.
     #[test]
     fn gives_up() {
         let folder = Folder::new("gives-up");
         let file = folder.put("a.psafe3", &safe());
-        let keys: [&[u8]; 4] = [b"\x1c", b"flo\x1c", b"\x04", b"flo\x04"];
+        let keys: [&[u8]; 7] =
+            [b"\x03", b"flo\x03", b"\x1c", b"flo\x1c", b"\x04", b"flo\x04", b"flo\x1aor 2\n"];
         for keys in keys {
             let shown = "Passphrase: \r\ntalc: given up\r\n".to_string();
             assert_eq!(typed(&file, keys), (77, shown), "{keys:?}");
