@@ -116,14 +116,12 @@ fn resave() {
     let folder = Folder::new("resave");
     let file = folder.put("a.psafe3", &safe());
     let out = folder.put("b.psafe3", b"what was there before");
-    fs::set_permissions(&out, fs::Permissions::from_mode(0o640)).unwrap();
-    fs::set_permissions(&file, fs::Permissions::from_mode(0o604)).unwrap();
-    for (out, mode) in [(&out, 0o640), (&file, 0o604), (&folder.0.join("c.psafe3"), 0o600)] {
+    for out in [&out, &file, &folder.0.join("c.psafe3")] {
         let ended = talc(&["resave", path(&file), path(out), "--passphrase-stdin"], PASSPHRASE);
         assert_eq!(ended.status, 0, "{}", ended.err);
         assert!(ended.out.contains("the same byte for byte"), "{}", ended.out);
         assert!(fs::read(out).unwrap() == safe());
-        assert_eq!(fs::metadata(out).unwrap().permissions().mode() & 0o777, mode);
+        assert_eq!(fs::metadata(out).unwrap().permissions().mode() & 0o777, 0o600);
     }
     assert_eq!(folder.names(), ["a.psafe3", "b.psafe3", "c.psafe3"]);
 }

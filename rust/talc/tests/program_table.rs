@@ -266,8 +266,7 @@ fn texts_of_rows_that_go_wrong() {
     refused_rows("rows-text", &cases);
 }
 
-/// What is no table keeps its place: the safe itself, another file, a folder, a device, a link to one
-/// of them. A link to a table is followed, and stays.
+/// What is no table keeps its place: the safe itself, another file, a folder, a link, a device.
 #[test]
 fn not_replaced() {
     let folder = Folder::new("table-place");
@@ -278,13 +277,11 @@ fn not_replaced() {
     let (link, taken) = (folder.0.join("link"), folder.0.join("taken"));
     symlink(&target, &link).unwrap();
     fs::create_dir(&taken).unwrap();
-    let to_safe = folder.0.join("to-safe");
-    symlink("a.psafe3", &to_safe).unwrap();
     let cases = [
         (&file, "is no table"),
         (&other, "is no table"),
         (&cut, "is no table"),
-        (&to_safe, "is no table"),
+        (&link, "no regular file"),
         (&taken, "no regular file"),
         (&PathBuf::from("/dev/null"), "no regular file"),
     ];
@@ -297,10 +294,9 @@ fn not_replaced() {
     assert_eq!(table(&file, &folder.0.join("no/such/table"), "5").status, 73);
     assert!(fs::read(&file).unwrap() == safe());
     assert_eq!(fs::read(&other).unwrap(), b"minutes of a meeting");
-    assert_eq!(table(&file, &link, "7").status, 0);
     assert!(fs::symlink_metadata(&link).unwrap().is_symlink());
-    assert!(fs::read(&target).unwrap() == two_rows(7));
-    let names = ["a.psafe3", "cut.table", "link", "other", "taken", "target.table", "to-safe"];
+    assert!(fs::read(&target).unwrap() == two_rows(5));
+    let names = ["a.psafe3", "cut.table", "link", "other", "taken", "target.table"];
     assert_eq!(folder.names(), names);
 }
 
