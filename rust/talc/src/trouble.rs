@@ -106,10 +106,7 @@ pub fn advice(refusal: Refusal) -> &'static str {
     match refusal {
         Refusal::Length => "the file is cut or is no safe; copy it again",
         Refusal::Room => "the safe would be too long: keep less in one safe",
-        Refusal::Iter => {
-            "raise it in the program that keeps the file, and save (Password Safe: Manage, Options, \
-             Security, unlock difficulty; Password Gorilla: Customize, V3 key stretching iterations)"
-        }
+        Refusal::Iter => "save it with a current program",
         Refusal::Ceiling => "raise --ceiling if the file can be trusted",
         Refusal::Body => {
             "copy it again; if it stays, give every entry a title and a password, remove one that \

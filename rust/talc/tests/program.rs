@@ -183,9 +183,9 @@ fn refusals() {
         (Vec::new(), 1, "cut or is no safe"),
         (safe[..100].to_vec(), 1, "cut or is no safe"),
         (vec![0; 4_194_304], 1, "cut or is no safe"),
-        (vec![0; 5_000_000], 1, "the file is too long"),
+        (vec![0; 5_000_000], 1, "cut or is no safe"),
         (with(0, b"PWS4"), 4, "choose a .psafe3 file"),
-        (with(36, &[0; 4]), 5, "Options, Security, unlock difficulty;"),
+        (with(36, &[0; 4]), 5, "save it with a current program"),
         (with(36, &[0xff; 4]), 6, "raise --ceiling"),
         (safe[..safe.len() - 16].to_vec(), 7, "copy it again"),
         (with(152, b"PWS3-EOFPWS3-EOF"), 7, "copy it again"),
@@ -359,28 +359,32 @@ fn refused_unasked() {
     let (mut tag, mut iter) = (safe(), safe());
     tag[3] = b'4';
     iter[36..40].copy_from_slice(&2047u32.to_le_bytes());
+    let cases = [(b"no safe".to_vec(), 1), (safe()[1..].to_vec(), 1), (tag, 4), (iter, 5)];
+    for (bytes, number) in cases {
+        let file = folder.put("a.psafe3", &bytes);
+        for command in ["check", "list", "fields"] {
+            // Without a terminal, asking would be 64.
+            let ended = talc(&[command, path(&file)], b"");
+            assert_eq!((ended.status, ended.out.as_str()), (number, ""), "{}", ended.err);
+            assert!(ended.err.contains(&format!("refused, {number}: ")), "{}", ended.err);
+        }
+    }
+}
+
+/// So is what is over the ceiling, or not whole; 6 comes before 7.
+#[test]
+fn refused_unasked_too() {
+    let folder = Folder::new("unasked-too");
     let (mut long, mut cut, mut marker) = (safe(), safe(), safe());
     long[36..40].copy_from_slice(&16_777_217u32.to_le_bytes());
     cut.truncate(cut.len() - 16);
     let place = marker.len() - 33;
     marker[place] ^= 0x80;
-    // 6 comes before 7.
     let both = [&long[..], &[0; 16]].concat();
-    let cases = [
-        (b"no safe".to_vec(), 1),
-        (safe()[1..].to_vec(), 1),
-        (tag, 4),
-        (iter, 5),
-        (long, 6),
-        (both, 6),
-        (cut, 7),
-        (marker, 7),
-        ([safe(), vec![0; 16]].concat(), 7),
-    ];
-    for (bytes, number) in cases {
+    let more = [safe(), vec![0; 16]].concat();
+    for (bytes, number) in [(long, 6), (both, 6), (cut, 7), (marker, 7), (more, 7)] {
         let file = folder.put("a.psafe3", &bytes);
         for command in ["check", "list", "fields"] {
-            // Without a terminal, asking would be 64.
             let ended = talc(&[command, path(&file)], b"");
             assert_eq!((ended.status, ended.out.as_str()), (number, ""), "{}", ended.err);
             assert!(ended.err.contains(&format!("refused, {number}: ")), "{}", ended.err);
