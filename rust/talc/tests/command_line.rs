@@ -63,7 +63,7 @@ fn names_that_would_steer() {
     let cases: [(&[&str], i32); 4] = [
         (&["check", path(&file), "--passphrase-stdin"], 0),
         (&["check", path(&file), "--ceiling", "0"], 6),
-        (&["find", path(&file), "nothing", "--passphrase-stdin"], 67),
+        (&["show", path(&file), "nothing", "--passphrase-stdin"], 67),
         (&["list", path(&file), "--state", path(&file)], 19),
     ];
     for (arguments, status) in cases {
@@ -94,7 +94,7 @@ fn words_that_are_not_utf8() {
 /// Refused before anything is read or asked for.
 #[test]
 fn options_that_do_not_go_together() {
-    let cases: [(&[&str], &str); 9] = [
+    let cases: [(&[&str], &str); 8] = [
         (&["list", "f", "--json", "--raw"], "--json and --raw do not go together"),
         (
             &["show", "f", "e", "--password", "--reveal"],
@@ -108,13 +108,12 @@ fn options_that_do_not_go_together() {
             &["find", "f", "lathe", "--json"],
             "--json goes with check, list, fields, show and rows alone",
         ),
-        (&["find", "f", "lathe", "--verbose"], "--verbose goes with a whole UUID alone"),
+        (&["show", "f", "lathe", "--verbose"], "--verbose goes with find alone"),
         (&["rows", "t", "--ceiling", "5"], "--ceiling does not go with rows"),
         (
             &["list", "-", "--passphrase-stdin"],
             "standard input can't be both the safe and the passphrase",
         ),
-        (&["check", "-", "-"], "standard input can be read once only"),
         (
             &["resave", "-", "g"],
             "this command reads no standard input: a file of the name - is ./-",

@@ -302,12 +302,12 @@ fn files_that_cannot_be_read() {
 
 #[test]
 fn wrong_arguments() {
-    let words = ["", " ", "a\u{1b}", "a\nb"];
+    let uuids = ["", "12", "0909090909090909090909090909090", "zz090909090909090909090909090909"];
     let mut cases: Vec<Vec<&str>> = vec![
         vec![],
         vec!["open", "f"],
         vec!["check"],
-        vec!["list", "f", "g"],
+        vec!["check", "f", "g"],
         vec!["list"],
         vec!["find", "f"],
         vec!["resave", "f"],
@@ -334,8 +334,7 @@ fn wrong_arguments() {
         vec!["check", "f", "--passphrase-file"],
         vec!["check", "f", "--passphrase-file", "g", "--passphrase-stdin"],
     ];
-    cases.extend(words.map(|word| vec!["find", "f", word]));
-    cases.extend(words.map(|word| vec!["show", "f", word]));
+    cases.extend(uuids.map(|uuid| vec!["find", "f", uuid]));
     for arguments in cases {
         let ended = talc(&arguments, b"");
         assert_eq!((ended.status, ended.out.as_str()), (64, ""), "{arguments:?}");

@@ -44,8 +44,6 @@ fn damaged_texts() {
     let user = "nina\\u{0} (BadText: goes wrong at byte 4 (from 0))";
     let list = talc_with(&["list", path(&file)]);
     assert_eq!((list.status, list.out), (0, format!("{title}\t{user}\t\t\n")));
-    let find = talc_with(&["find", path(&file), "nina"]);
-    assert_eq!((find.status, find.out), (0, format!("0\t{title}\t{user}\t\n")));
     let stored = folder.put("passphrase", PASSPHRASE);
     let mut command = common::elsewhere::built(env!("CARGO_BIN_EXE_talc"));
     command.args(["list", path(&file), "--raw", "--passphrase-file", path(&stored)]);
