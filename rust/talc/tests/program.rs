@@ -31,8 +31,7 @@ fn list_shows_no_password_and_steers_no_terminal() {
     let file = folder.put("a.psafe3", &safe());
     let ended = talc(&["list", path(&file), "--passphrase-stdin"], PASSPHRASE);
     assert_eq!(ended.status, 0, "{}", ended.err);
-    let lines =
-        "Drehbank\\u{9}3\\u{1b}[2J \\t ä\tworker\tFloor.Lathes\t2030-03-17\nPrinter\t\t\t\n";
+    let lines = "Drehbank\\t3\\u{1b}[2J \\\\t ä\tworker\tFloor.Lathes\t2030-03-17\nPrinter\t\t\t\n";
     assert_eq!(ended.out, lines);
 }
 

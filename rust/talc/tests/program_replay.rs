@@ -102,7 +102,7 @@ fn the_list_by_a_state() {
     let file = folder.put("a.psafe3", &safe());
     let [first, second] = two_traces();
     let lines = |lathe: &str, printer: &str| {
-        let title = "Drehbank\\u{9}3\\u{1b}[2J \\t ä\tworker\tFloor.Lathes\t2030-03-17";
+        let title = "Drehbank\\t3\\u{1b}[2J \\\\t ä\tworker\tFloor.Lathes\t2030-03-17";
         format!("{title}\t{lathe}\nPrinter\t\t\t\t{printer}\n")
     };
     let cases = [

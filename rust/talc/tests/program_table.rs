@@ -93,7 +93,7 @@ fn rows_shown() {
     let folder = Folder::new("rows");
     let out = folder.put("floor.table", &two_rows(NOW));
     let ended = rows(&out);
-    let lathe = "0123456789abcdef30313233343536ff\tDrehbank\\u{9}3\\u{1b}[2J \\t ä\tworker";
+    let lathe = "0123456789abcdef30313233343536ff\tDrehbank\\t3\\u{1b}[2J \\\\t ä\tworker";
     let printer = "09090909090909090909090909090909\tPrinter\t\t\tno expiry";
     let expected = format!("{lathe}\tFloor.Lathes\t1231 days\n{printer}\n");
     assert_eq!((ended.status, ended.out, ended.err.as_str()), (0, expected, ""));
@@ -156,7 +156,7 @@ fn damaged() -> Vec<(Part, &'static str)> {
     vec![
         (
             part(TITLE, b"Lat\x1b\xff"),
-            "\"Lat\\u{1b}\\x{ff}\": its title goes wrong at byte 4 (from 0), not UTF-8: \
+            "\"Lat\\u{1b}\u{fffd}\": its title goes wrong at byte 4 (from 0), not UTF-8: \
              \"Lat\\u{1b}\" ff: type it again",
         ),
         (
