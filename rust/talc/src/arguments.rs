@@ -203,20 +203,20 @@ impl Sorted {
         self.piped(command)
     }
 
-    /// Standard input is read once, for one purpose, by a command that takes a safe from there.
+    /// Standard input is read for one purpose, by a command that takes a safe from there.
     fn piped(&self, command: &Command) -> Result<(), Trouble> {
-        let files = if command.name == "check" { &self.words[1..] } else { &self.words[1..2] };
-        let count = files.iter().filter(|file| *file == "-").count();
-        let wrong = match count {
-            0 => return Ok(()),
-            _ if !commands::PIPED.contains(&command.name) => {
-                "this command reads no standard input: a file of the name - is ./-"
-            }
-            1 if !self.has("--passphrase-stdin") => return Ok(()),
-            1 => "standard input can't be both the safe and the passphrase",
-            _ => "standard input can be read once only",
-        };
-        Err(Trouble::usage(wrong))
+        if self.words.get(1).is_none_or(|file| file != "-") {
+            return Ok(());
+        }
+        if !commands::PIPED.contains(&command.name) {
+            let message = "this command reads no standard input: a file of the name - is ./-";
+            return Err(Trouble::usage(message));
+        }
+        if self.has("--passphrase-stdin") {
+            let message = "standard input can't be both the safe and the passphrase";
+            return Err(Trouble::usage(message));
+        }
+        Ok(())
     }
 }
 

@@ -18,6 +18,21 @@ const NOT_NEEDED: i32 = 4;
 const FROM_HERE: i32 = -100;
 const NO_REPLACING: u32 = 1;
 
+/// The mode of a file that replaces none.
+pub const NEW: u32 = 0o600;
+
+/// What a new file is likened to: the one that it is to replace, and with which mode.
+pub struct Like<'h> {
+    pub held: &'h Metadata,
+    pub mode: u32,
+}
+
+impl<'h> Like<'h> {
+    pub fn all(held: &'h Metadata) -> Like<'h> {
+        Like { held, mode: held.mode() }
+    }
+}
+
 /// A name of a file in the target's folder. When it is dropped, the name is removed; what has got
 /// another name before that stays.
 pub struct Beside(PathBuf);
@@ -38,14 +53,14 @@ fn name(target: &Path) -> io::Result<PathBuf> {
     Ok(target.with_file_name(name))
 }
 
-/// Owner, group and mode of the file that is to be replaced, as far as this user may give them. Where
-/// the group can't be the same, the mode gives it nothing.
-fn liken(file: &File, held: &Metadata) -> io::Result<()> {
-    let (owner, group) = (Some(held.uid()), Some(held.gid()));
+/// Owner and group of the file that is to be replaced, and the mode, as far as this user may give
+/// them. Where the group can't be the same, the mode gives it nothing.
+fn liken(file: &File, like: Like) -> io::Result<()> {
+    let (owner, group) = (Some(like.held.uid()), Some(like.held.gid()));
     let _ = fchown(file, owner, group).or_else(|_| fchown(file, None, group));
     let own = file.metadata()?;
-    let kept = if own.gid() == held.gid() { 0o7777 } else { 0o7707 };
-    let (mode, wanted) = (own.mode() & 0o7777, held.mode() & kept);
+    let kept = if own.gid() == like.held.gid() { 0o7777 } else { 0o7707 };
+    let (mode, wanted) = (own.mode() & 0o7777, like.mode & kept);
     // A file system that has no modes of its own refuses to set them.
     if mode == wanted {
         return Ok(());
@@ -70,19 +85,15 @@ fn c_string(path: &Path) -> io::Result<CString> {
 impl Beside {
     /// A new file with these bytes, of mode 0600 until it is likened to the one that it is to
     /// replace; and what was read back of it.
-    pub fn write(
-        target: &Path,
-        bytes: &[u8],
-        held: Option<&Metadata>,
-    ) -> io::Result<(Beside, Vec<u8>)> {
+    pub fn write(target: &Path, bytes: &[u8], like: Option<Like>) -> io::Result<(Beside, Vec<u8>)> {
         let path = name(target)?;
         let mut options = OpenOptions::new();
-        options.read(true).write(true).create_new(true).mode(0o600);
+        options.read(true).write(true).create_new(true).mode(NEW);
         let mut file = options.open(&path)?;
         let beside = Beside(path);
         file.write_all(bytes)?;
-        if let Some(held) = held {
-            liken(&file, held)?;
+        if let Some(like) = like {
+            liken(&file, like)?;
         }
         file.sync_all()?;
         let back = read_back(&file, bytes.len())?;

@@ -34,14 +34,10 @@ pub fn told(lines: &[Line]) -> Vec<u8> {
     if !std::io::stdout().is_terminal() {
         return lines.iter().flat_map(|line| [&line.join(&b'\t')[..], b"\n"].concat()).collect();
     }
-    aligned(lines).into_bytes()
-}
-
-pub fn aligned(lines: &[Line]) -> String {
     let line = |line: &Line| line.iter().map(|text| String::from_utf8_lossy(text).into()).collect();
     let lines: Vec<Vec<String>> = lines.iter().map(line).collect();
     let widths = widths(&lines);
-    lines.iter().map(|line| one(line, &widths)).collect()
+    lines.iter().map(|line| aligned(line, &widths)).collect::<String>().into_bytes()
 }
 
 /// Of each column the widest text, and two blanks.
@@ -53,7 +49,7 @@ fn widths(lines: &[Vec<String>]) -> Vec<usize> {
     widths
 }
 
-fn one(line: &[String], widths: &[usize]) -> String {
+fn aligned(line: &[String], widths: &[usize]) -> String {
     let columns = line.iter().zip(widths);
     let filled = |(text, wide): (&String, &usize)| text.clone() + &" ".repeat(wide - width(text));
     let line: String = columns.map(filled).collect();
@@ -66,11 +62,18 @@ fn alignment() {
     let lines = [
         line(["Lathe 3", "ä", "", "x", "cancelled"]),
         line(["Lathe 3", "äöüß", "", "", ""]),
-        line(["旋盤", "", "", "xy", ""]),
+        line(["", "", "", "xy", ""]),
     ];
     let widths = widths(&lines);
     assert_eq!(widths, [9, 6, 2, 4, 11]);
-    assert_eq!(one(&lines[0], &widths), "Lathe 3  ä       x   cancelled\n");
-    assert_eq!(one(&lines[1], &widths), "Lathe 3  äöüß\n");
-    assert_eq!(one(&lines[2], &widths), "旋盤             xy\n");
+    assert_eq!(aligned(&lines[0], &widths), "Lathe 3  ä       x   cancelled\n");
+    assert_eq!(aligned(&lines[1], &widths), "Lathe 3  äöüß\n");
+}
+
+#[test]
+fn wide_characters() {
+    let lines = ["Lathe 3", "旋盤"].map(|title| vec![title.to_string(), "xy".to_string()]);
+    let widths = widths(&lines);
+    assert_eq!(widths, [9, 4]);
+    assert_eq!(aligned(&lines[1], &widths), "旋盤     xy\n");
 }

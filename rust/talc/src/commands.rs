@@ -59,7 +59,7 @@ pub const SETTING: &[&str] = &["--password-file", "--password-stdin"];
 pub const PIPED: &[&str] = &["check", "list", "fields", "find", "show", "table"];
 
 pub const ALL: &[Command] = &[
-    Command { name: "check", words: "FILE..", options: &[OPENING, &["--json"]], run: check::run },
+    Command { name: "check", words: "FILE", options: &[OPENING, &["--json"]], run: check::run },
     Command {
         name: "list",
         words: "FILE",
@@ -69,8 +69,8 @@ pub const ALL: &[Command] = &[
     Command { name: "fields", words: "FILE", options: &[OPENING, &["--json"]], run: fields::run },
     Command {
         name: "find",
-        words: "FILE WORD..",
-        options: &[OPENING, &["--raw", "--verbose"]],
+        words: "FILE UUID",
+        options: &[OPENING, &["--verbose"]],
         run: find::run,
     },
     Command {

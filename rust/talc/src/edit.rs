@@ -69,8 +69,8 @@ fn put_in(body: &mut Builder<Random>, section: &[Field], puts: &[Put]) -> Result
 }
 
 fn add_to(body: &mut Builder<Random>, puts: &[&Put]) -> Result<(), Refusal> {
-    let given = puts.iter().filter_map(|put| Some((put.kind, put.data()?)));
-    given.map(|(kind, data)| body.add(kind, data)).collect()
+    let mut given = puts.iter().filter_map(|put| Some((put.kind, put.data()?)));
+    given.try_for_each(|(kind, data)| body.add(kind, data))
 }
 
 fn build(

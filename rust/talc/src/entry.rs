@@ -1,6 +1,5 @@
 //! ENTRY: which record a person means.
 
-use crate::columns::{self, Line};
 use crate::show;
 use crate::trouble::Trouble;
 use std::ffi::OsStr;
@@ -24,22 +23,16 @@ const TEXTS: [u8; 3] = [record::TITLE, record::USER, record::GROUP];
 impl Entry {
     /// Up to five decimal digits alone are a record's number.
     pub fn of(typed: &OsStr) -> Result<Entry, Trouble> {
-        let words = Entry::of_words(&[typed])?;
-        let text = typed.to_str().unwrap_or("");
-        let number = text.len() <= 5 && text.bytes().all(|byte| byte.is_ascii_digit());
-        Ok(text.parse().ok().filter(|_| number).map_or(words, Entry::Number))
-    }
-
-    /// No numbers: digits may be a word of a title.
-    pub fn of_words(typed: &[impl AsRef<OsStr>]) -> Result<Entry, Trouble> {
-        let mut words = Vec::new();
-        for typed in typed.iter().map(AsRef::as_ref) {
-            let text = typed.to_str().ok_or_else(|| wrong(typed, "is not UTF-8"))?;
-            if text.chars().any(char::is_control) {
-                return Err(wrong(typed, "has control characters"));
-            }
-            words.extend(text.split_whitespace().map(str::to_lowercase));
+        let text = typed.to_str().ok_or_else(|| wrong(typed, "is not UTF-8"))?;
+        if text.chars().any(char::is_control) {
+            return Err(wrong(typed, "has control characters"));
         }
+        if text.len() <= 5 && text.bytes().all(|byte| byte.is_ascii_digit()) {
+            if let Ok(number) = text.parse() {
+                return Ok(Entry::Number(number));
+            }
+        }
+        let words: Vec<String> = text.split_whitespace().map(str::to_lowercase).collect();
         match &words[..] {
             [] => Err(Trouble::usage("an entry needs a number, a UUID or a word")),
             [word] if digits(word).is_some() => Ok(Entry::Digits(digits(word).unwrap_or_default())),
@@ -48,7 +41,7 @@ impl Entry {
     }
 
     /// Where it is a whole UUID.
-    pub fn uuid(&self) -> Option<Uuid> {
+    fn uuid(&self) -> Option<Uuid> {
         match self {
             Entry::Digits(digits) => digits.parse().ok(),
             _ => None,
@@ -56,7 +49,7 @@ impl Entry {
     }
 
     /// All records that it can mean, in the order of the safe.
-    pub fn matches<'o>(&self, opened: &'o Opened) -> Result<Vec<Record<'o>>, Refusal> {
+    fn matches<'o>(&self, opened: &'o Opened) -> Result<Vec<Record<'o>>, Refusal> {
         let all = || opened.records().collect::<Result<Vec<_>, _>>();
         let mut records = all()?;
         match self {
@@ -91,7 +84,7 @@ impl Entry {
         matches!(self, Entry::Words(words) if title.split_whitespace().eq(words))
     }
 
-    pub fn none(&self, path: &Path) -> Trouble {
+    fn none(&self, path: &Path) -> Trouble {
         let path = show::path(path);
         Trouble::NoRecord(match self {
             Entry::Number(number) => format!("{path}: no record has the number {number}"),
@@ -133,16 +126,15 @@ fn holds(record: &Record, words: &[String]) -> bool {
 }
 
 /// Number, title, user name and group.
-pub fn line(record: &Record, raw: bool) -> Line {
-    let column = |kind| record.first(kind).map_or(Vec::new(), |field| columns::text(&field, raw));
-    [record.number.to_string().into_bytes()].into_iter().chain(TEXTS.map(column)).collect()
+fn told(record: &Record) -> String {
+    let quoted = |kind| show::quoted(record.first(kind).map_or(&[][..], |field| field.data));
+    format!("{}, {}", record.number, TEXTS.map(quoted).join(", "))
 }
 
 fn several(path: &Path, records: &[Record]) -> Trouble {
-    let lines: Vec<Line> = records.iter().map(|record| line(record, false)).collect();
-    let path = show::path(path);
-    let head = format!("{path}: {} entries match: give the number of one", lines.len());
-    Trouble::Several(format!("{head}\n{}", columns::aligned(&lines).trim_end()))
+    let (path, count) = (show::path(path), records.len());
+    let all = records.iter().map(told).collect::<Vec<_>>().join("; ");
+    Trouble::Several(format!("{path}: {count} entries match: give the number of one: {all}"))
 }
 
 #[test]
@@ -162,5 +154,4 @@ fn typed() {
     for wrong in ["", " ", "a\u{1b}", "a\nb"] {
         assert_eq!(Entry::of(OsStr::new(wrong)).unwrap_err().status(), 64);
     }
-    assert_eq!(Entry::of_words(&[OsStr::new("3")]).unwrap(), words(&["3"]));
 }

@@ -88,7 +88,7 @@ fn reasons() {
     let cases: [(&[u8], usize, &str); 9] = [
         (b"S\xe4gewerk", 1, "not UTF-8: \"S\" e4 \"gewerk\""),
         (b"\xd6l", 0, "not UTF-8: d6 \"l\""),
-        (b"a\" ff \"b\xe4", 8, "cut within a character: \"a\\u{22} ff \\u{22}b\" e4"),
+        (b"a\" ff \"b\xe4", 8, "cut within a character: \"a\\\" ff \\\"b\" e4"),
         (b"a\xed\xa0\x80\xffb\xc3", 1, "not UTF-8: \"a\" ed a0 80 ff \"b\u{fffd}\""),
         (b"Floor \xf0\x9f\x94", 6, "cut within a character: \"Floor \" f0 9f 94"),
         (b"\xef\xbb\xbfLathe", 0, "a byte order mark: ef bb bf \"Lathe\""),

@@ -1,6 +1,6 @@
 //! Reading a file once, and writing one without ever writing in place.
 
-use crate::beside::Beside;
+use crate::beside::{Beside, Like, NEW};
 use crate::standard;
 use crate::target::Target;
 use crate::trouble::Trouble;
@@ -25,9 +25,9 @@ pub fn read_stdin(limit: usize) -> Result<Vec<u8>, Trouble> {
     Ok(bytes)
 }
 
-/// Whether there is a file that may be replaced, or none.
+/// Whether there is a file that may be replaced, or none. A link is not.
 pub fn replaceable(path: &Path) -> Result<bool, Trouble> {
-    Ok(Target::of(path)?.held.is_some())
+    Ok(Target::itself(path)?.held.is_some())
 }
 
 /// The folder's own record of the new name; not every file system can do this.
@@ -41,10 +41,11 @@ pub fn differs() -> io::Error {
     io::Error::other("the disk gives back other bytes than it was given")
 }
 
-/// Writes a new file beside the path, then gives it the path's name.
+/// Writes a new file of mode 0600 beside the path, then gives it the path's name.
 pub fn write(path: &Path, bytes: &[u8]) -> Result<(), Trouble> {
     let target = Target::of(path)?;
-    let written = Beside::write(&target.path, bytes, target.held.as_ref());
+    let like = target.held.as_ref().map(|held| Like { mode: NEW, held });
+    let written = Beside::write(&target.path, bytes, like);
     let renamed = written.and_then(|(new, back)| match back == bytes {
         true => new.rename(&target.path),
         false => Err(differs()),

@@ -1,30 +1,23 @@
-//! `talc find`: the records that words can mean, or the one with a UUID.
+//! `talc find`: the record with a UUID.
 
 use crate::arguments::Arguments;
-use crate::columns::{self, Line};
 use crate::commands::Said;
-use crate::entry::{self, Entry};
 use crate::opening::{self, Closed};
 use crate::trouble::Trouble;
 use crate::{fields, show};
+use std::ffi::OsStr;
 use talcfeather::{Opened, Uuid};
 
+/// 32 hex digits, as stored, with or without hyphens.
+fn uuid(word: &OsStr) -> Result<Uuid, Trouble> {
+    let wrong = || Trouble::usage("a UUID is 32 hex digits, with or without hyphens");
+    word.to_str().and_then(|word| word.parse().ok()).ok_or_else(wrong)
+}
+
 pub fn run(arguments: &Arguments) -> Result<Said, Trouble> {
-    let entry = Entry::of_words(&arguments.words()[1..])?;
-    let (raw, verbose) = (columns::raw(arguments)?, arguments.has("--verbose"));
-    if verbose && entry.uuid().is_none() {
-        return Err(Trouble::usage("--verbose goes with a whole UUID alone"));
-    }
+    let uuid = uuid(arguments.word(1))?;
     opening::with(arguments, |closed, opened, _| {
-        if let Some(uuid) = entry.uuid() {
-            return record(closed, opened, uuid, verbose);
-        }
-        let records = entry.matches(opened).map_err(|refusal| closed.refused(refusal))?;
-        if records.is_empty() {
-            return Err(entry.none(&closed.path));
-        }
-        let lines: Vec<Line> = records.iter().map(|record| entry::line(record, raw)).collect();
-        Ok(columns::told(&lines).into())
+        record(closed, opened, uuid, arguments.has("--verbose"))
     })
 }
 

@@ -62,10 +62,6 @@ impl Closed {
     }
 
     pub fn refused(&self, refusal: Refusal) -> Trouble {
-        if refusal == Refusal::Length && self.bytes.len() > FILE_MAX {
-            let advice = format!("the file is too long: no safe has more than {FILE_MAX} bytes");
-            return Trouble::advised(&self.path, refusal, advice);
-        }
         Trouble::refused(&self.path, refusal)
     }
 }

@@ -21,8 +21,10 @@ pub fn ask(prompt: &str, otherwise: &str) -> Result<Secret, Trouble> {
     let mut line = Secret(vec![0; LINE]);
     let length = quiet.line(&mut line.0);
     line.0.truncate(length.map_err(|error| Trouble::input(Path::new("/dev/tty"), error))?);
+    // Suspend ends no line, and is never meant as typed.
+    let suspend = quiet.before.keys[SUSPEND];
     match line.0.last() {
-        Some(b'\n') => Ok(line),
+        Some(b'\n') if !line.0.contains(&suspend) || suspend == 0 => Ok(line),
         _ => Err(Trouble::GivenUp),
     }
 }
@@ -58,6 +60,7 @@ extern "C" {
     fn write(fd: i32, bytes: *const u8, length: usize) -> isize;
 }
 
+const ISIG: u32 = 0o1;
 const ICANON: u32 = 0o2;
 const ECHO: u32 = 0o10;
 const ECHONL: u32 = 0o100;
@@ -65,7 +68,10 @@ const IEXTEN: u32 = 0o100000;
 const TCSAFLUSH: i32 = 2;
 
 /// Places in `keys`. A key that the terminal does not have is 0 there.
+const INTERRUPT: usize = 0;
 const QUIT: usize = 1;
+const SUSPEND: usize = 10;
+const END_OF_LINE: usize = 11;
 const END_OF_LINE_2: usize = 16;
 
 /// Hangup, interrupt, quit and termination end the process; the terminal's stop suspends it.
@@ -78,8 +84,9 @@ const IGNORE: usize = 1;
 const READABLE: i16 = 1;
 const FOREVER: i32 = -1;
 
-/// A terminal that shows nothing typed. Whatever ends or suspends the process meanwhile leaves it as
-/// it was before. The key that quits gives up instead, so that no core file is made.
+/// A terminal that shows nothing typed. Its keys send no signals: interrupt and quit end the line
+/// instead. A signal that comes otherwise, and ends or suspends the process, leaves the terminal as it
+/// was before.
 struct Quiet<'p> {
     terminal: File,
     prompt: &'p str,
@@ -119,8 +126,8 @@ impl<'p> Quiet<'p> {
             return Err(io::Error::last_os_error());
         }
         let mut quiet = before;
-        quiet.local = before.local & !(ECHO | ECHONL) | ICANON | IEXTEN;
-        quiet.keys[QUIT] = 0;
+        quiet.local = before.local & !(ECHO | ECHONL | ISIG) | ICANON | IEXTEN;
+        quiet.keys[END_OF_LINE] = before.keys[INTERRUPT];
         quiet.keys[END_OF_LINE_2] = before.keys[QUIT];
         let (noted, note) = io::pipe()?;
         NOTE.store(note.as_raw_fd(), SeqCst);

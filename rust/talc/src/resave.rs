@@ -4,6 +4,7 @@ use crate::arguments::Arguments;
 use crate::commands::Said;
 use crate::lock::Locked;
 use crate::opening::Closed;
+use crate::target::Target;
 use crate::trouble::Trouble;
 use crate::{files, passphrase, progress, show};
 use talcfeather::{Parts, Refusal};
@@ -11,7 +12,7 @@ use talcfeather::{Parts, Refusal};
 pub fn run(arguments: &Arguments) -> Result<Said, Trouble> {
     let out = arguments.path(1);
     // A safe that is replaced is nobody else's to write meanwhile: it may be the one that is read.
-    let _locked = files::replaceable(out)?.then(|| Locked::take(out)).transpose()?;
+    let _locked = Target::of(out)?.held.map(|_| Locked::take(out)).transpose()?;
     let closed = Closed::read(arguments.path(0), arguments.ceiling())?;
     let passphrase = passphrase::get(&arguments.source())?;
     let mut workspace = closed.workspace();

@@ -1,6 +1,6 @@
 //! Saving a safe so that at any moment its name leads to the old file or to the new one, whole.
 
-use crate::beside::Beside;
+use crate::beside::{Beside, Like};
 use crate::lock::Locked;
 use crate::trouble::Trouble;
 use crate::{files, written};
@@ -29,9 +29,9 @@ fn written(
     opens: impl FnOnce(&[u8]) -> Result<(), Trouble>,
 ) -> Result<Beside, Trouble> {
     let target = locked.map_or(path, |locked| &locked.path);
-    let held = locked.map(|locked| &locked.held);
+    let like = locked.map(|locked| Like::all(&locked.held));
     let (new, back) =
-        Beside::write(target, bytes, held).map_err(|error| not_written(path, error))?;
+        Beside::write(target, bytes, like).map_err(|error| not_written(path, error))?;
     if back != bytes {
         return Err(not_written(path, files::differs()));
     }
@@ -54,7 +54,7 @@ fn keep_old(locked: &Locked, old: &[u8]) -> io::Result<PathBuf> {
     }
     let old = match Beside::link(&locked.path) {
         Ok(link) => link,
-        Err(_) => match Beside::write(&backup, old, Some(&locked.held))? {
+        Err(_) => match Beside::write(&backup, old, Some(Like::all(&locked.held)))? {
             (copy, back) if back == old => copy,
             _ => return Err(files::differs()),
         },

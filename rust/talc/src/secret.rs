@@ -3,6 +3,10 @@
 pub struct Secret(pub Vec<u8>);
 
 impl Secret {
+    fn wipe(&mut self) {
+        talcfeather::wipe(&mut self.0);
+    }
+
     /// Keeps that many bytes. The others are wiped: they stand in the memory, and are no longer seen
     /// when that is given back.
     pub fn shorten(&mut self, length: usize) {
@@ -13,6 +17,13 @@ impl Secret {
 
 impl Drop for Secret {
     fn drop(&mut self) {
-        talcfeather::wipe(&mut self.0);
+        self.wipe();
     }
+}
+
+#[test]
+fn wiped() {
+    let mut secret = Secret(b"floor 2".to_vec());
+    secret.wipe();
+    assert_eq!(secret.0, [0; 7]);
 }

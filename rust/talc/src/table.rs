@@ -148,15 +148,18 @@ fn text_at_fault(room: &[u8]) -> Option<String> {
     wrong.or_else(more)
 }
 
+#[cfg(test)]
+fn texts(line: Line) -> Vec<String> {
+    line.into_iter().map(|text| String::from_utf8(text).unwrap()).collect()
+}
+
 #[test]
 fn lines() {
+    let line = |row: &Row| texts(line(row, false));
     let uuid = talcfeather::Uuid([7; 16]);
     let row = |days| Row { uuid, title: "a\u{1b}", user: "", group: "ä\\", days };
     let uuid = "07070707070707070707070707070707";
-    let text = |line: Line| line.into_iter().map(|text| String::from_utf8(text).unwrap());
-    let texts = |row, raw| text(line(&row, raw)).collect::<Vec<_>>();
-    assert_eq!(texts(row(5), false), [uuid, "a\\u{1b}", "", "ä\\", "5 days"]);
-    assert_eq!(texts(row(5), true), [uuid, "a\u{1b}", "", "ä\\", "5 days"]);
+    assert_eq!(line(&row(5)), [uuid, "a\\u{1b}", "", "ä\\\\", "5 days"]);
     let words = [
         (i32::MIN, "expired"),
         (-1, "expired"),
@@ -166,6 +169,14 @@ fn lines() {
         (i32::MAX, "no expiry"),
     ];
     for (days, word) in words {
-        assert_eq!(texts(row(days), false)[4], word);
+        assert_eq!(line(&row(days))[4], word);
     }
+}
+
+#[test]
+fn raw_lines() {
+    let uuid = talcfeather::Uuid([7; 16]);
+    let row = Row { uuid, title: "a\u{1b}", user: "", group: "ä\\", days: 5 };
+    let uuid = "07070707070707070707070707070707";
+    assert_eq!(texts(line(&row, true)), [uuid, "a\u{1b}", "", "ä\\", "5 days"]);
 }

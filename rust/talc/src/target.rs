@@ -30,7 +30,15 @@ fn followed(path: &Path) -> Result<(PathBuf, Metadata), Trouble> {
 }
 
 impl Target {
-    /// What is no regular file is refused.
+    /// A link is refused too: what it leads to is not meant to be replaced, nor the link.
+    pub fn itself(path: &Path) -> Result<Target, Trouble> {
+        match std::fs::symlink_metadata(path) {
+            Ok(found) if found.is_symlink() => Err(wrong(path, "is no regular file")),
+            _ => Target::of(path),
+        }
+    }
+
+    /// A link is followed. What is no regular file is refused.
     pub fn of(path: &Path) -> Result<Target, Trouble> {
         let (target, held) = match std::fs::symlink_metadata(path) {
             Err(error) if error.kind() == ErrorKind::NotFound => {

@@ -17,8 +17,6 @@ pub enum Trouble {
     Traces(usize, usize),
     /// 18: a login or a row that the table does not hold, in words.
     Table(String),
-    /// Of several files some are not accepted: the greatest of their statuses.
-    Files(u8, String),
     /// 64: the arguments.
     Usage(String),
     /// 64: a value or a secret that is not stored as it is.
@@ -27,7 +25,7 @@ pub enum Trouble {
     Input(String),
     /// 67: no record is meant.
     NoRecord(String),
-    /// 68: several records are meant, each with a line.
+    /// 68: several records are meant, and told.
     Several(String),
     /// 70: written again, the file differs; this contradicts what is proved.
     Differs(String),
@@ -87,7 +85,6 @@ impl Trouble {
             Trouble::NoState(..) => 19,
             Trouble::Traces(..) => 16,
             Trouble::Table(_) => 18,
-            Trouble::Files(status, _) => *status,
             Trouble::Usage(_) | Trouble::Given(_) => 64,
             Trouble::Input(_) => 66,
             Trouble::NoRecord(_) => 67,
@@ -106,10 +103,7 @@ pub fn advice(refusal: Refusal) -> &'static str {
     match refusal {
         Refusal::Length => "the file is cut or is no safe; copy it again",
         Refusal::Room => "the safe would be too long: keep less in one safe",
-        Refusal::Iter => {
-            "raise it in the program that keeps the file, and save (Password Safe: Manage, Options, \
-             Security, unlock difficulty; Password Gorilla: Customize, V3 key stretching iterations)"
-        }
+        Refusal::Iter => "save it with a current program",
         Refusal::Ceiling => "raise --ceiling if the file can be trusted",
         Refusal::Body => {
             "copy it again; if it stays, give every entry a title and a password, remove one that \
@@ -149,7 +143,6 @@ impl fmt::Display for Trouble {
             Trouble::Usage(message) => write!(f, "{message}; try talc --help"),
             Trouble::GivenUp => write!(f, "given up"),
             Trouble::Table(message)
-            | Trouble::Files(_, message)
             | Trouble::Input(message)
             | Trouble::NoRecord(message)
             | Trouble::Several(message)

@@ -10,30 +10,23 @@ pub fn steers(c: char) -> bool {
     c.is_control() || turns || matches!(c, '\u{2066}'..='\u{2069}')
 }
 
-/// What is written out has one of two forms: a character that could steer a terminal is `\u{1b}`, a
-/// byte that is no UTF-8 is `\x{e4}`. A backslash is shown as it is; only one that would be taken for
-/// the start of such a form is itself written out, as `\u{5c}`.
+/// Bytes as text; what could steer a terminal is written out. So is a backslash, which then is
+/// never taken for the start of something written out.
 pub fn text(data: &[u8]) -> String {
     let mut shown = String::new();
-    for chunk in data.utf8_chunks() {
-        let valid = chunk.valid();
-        for (at, c) in valid.char_indices() {
-            let rest = &valid[at..];
-            let ambiguous = rest.starts_with("\\u{") || rest.starts_with("\\x{");
-            if steers(c) || ambiguous {
-                shown.extend(c.escape_unicode());
-            } else {
-                shown.push(c);
-            }
+    for c in String::from_utf8_lossy(data).chars() {
+        if steers(c) || c == '\\' {
+            shown.extend(c.escape_default());
+        } else {
+            shown.push(c);
         }
-        shown.extend(chunk.invalid().iter().map(|byte| format!("\\x{{{byte:02x}}}")));
     }
     shown
 }
 
 /// Between quotation marks; one within is written out.
 pub fn quoted(data: &[u8]) -> String {
-    format!("\"{}\"", text(data).replace('"', "\\u{22}"))
+    format!("\"{}\"", text(data).replace('"', "\\\""))
 }
 
 /// The start of a long text.
@@ -57,16 +50,24 @@ pub fn path(path: &Path) -> String {
 
 #[test]
 fn texts() {
-    let cases: [(&[u8], &str); 12] = [
-        ("a\u{1b}[2J\n\u{202e}ä".as_bytes(), "a\\u{1b}[2J\\u{a}\\u{202e}ä"),
-        (b"OFFICE\\tom", "OFFICE\\tom"),
-        (b"OFFICE\\user", "OFFICE\\user"),
-        (b"\\\\server\\new\\", "\\\\server\\new\\"),
-        (b"\\u{1b}", "\\u{5c}u{1b}"),
-        (b"\\x{1b}", "\\u{5c}x{1b}"),
-        (b"\\\\u{1b}", "\\\\u{5c}u{1b}"),
-        (b"\\\x1b", "\\\\u{1b}"),
-        (b"a\xff\xe4", "a\\x{ff}\\x{e4}"),
+    assert_eq!(text("a\u{1b}[2J\n\u{202e}ä".as_bytes()), "a\\u{1b}[2J\\n\\u{202e}ä");
+    let turns = ['\u{61c}', '\u{200e}', '\u{200f}', '\u{202a}', '\u{202e}', '\u{2066}', '\u{2069}'];
+    for c in turns {
+        assert_eq!(text(c.to_string().as_bytes()), c.escape_unicode().to_string());
+    }
+    assert_eq!(text(b"a\n"), "a\\n");
+    assert_eq!(text(b"a\\n"), "a\\\\n");
+    assert_eq!(text(&[b'a', 0xff]), "a\u{fffd}");
+    assert_eq!(short("ä".repeat(61).as_bytes()), "ä".repeat(60) + "..");
+}
+
+#[test]
+fn backslashes_and_quotation_marks() {
+    let cases: [(&[u8], &str); 7] = [
+        (b"OFFICE\\tom", "OFFICE\\\\tom"),
+        (b"\\\\server\\new\\", "\\\\\\\\server\\\\new\\\\"),
+        (b"\\u{1b}", "\\\\u{1b}"),
+        (b"\\\x1b", "\\\\\\u{1b}"),
         ("\u{fffd}".as_bytes(), "\u{fffd}"),
         (b"a\"b", "a\"b"),
         (b"", ""),
@@ -74,12 +75,7 @@ fn texts() {
     for (data, shown) in cases {
         assert_eq!(text(data), shown);
     }
-    let turns = ['\u{61c}', '\u{200e}', '\u{200f}', '\u{202a}', '\u{202e}', '\u{2066}', '\u{2069}'];
-    for c in turns {
-        assert_eq!(text(c.to_string().as_bytes()), c.escape_unicode().to_string());
-    }
-    assert_eq!(quoted(b"a\"b\\"), "\"a\\u{22}b\\\"");
-    assert_eq!(short("ä".repeat(61).as_bytes()), "ä".repeat(60) + "..");
+    assert_eq!(quoted(b"a\"b\\"), "\"a\\\"b\\\\\"");
 }
 
 /// Two texts that differ are shown differently: what is shown can be read back.

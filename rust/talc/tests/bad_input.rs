@@ -213,6 +213,8 @@ fn asked_twice() {
     let (status, shown) = typed(&set, &[passphrase, (new, "\n")]);
     assert_eq!(status, Some(64), "{shown}");
     assert!(shown.contains("the password is empty"), "{shown}");
+    let (status, shown) = typed(&set, &[passphrase, (new, "Äpf\x03")]);
+    assert_eq!(status, Some(77), "{shown}");
     assert!(fs::read(&office.file).unwrap() == safe());
     let (status, shown) = typed(&set, &[passphrase, (new, "Äpfel 7\n"), (again, "Äpfel 7\n")]);
     assert_eq!(status, Some(0), "{shown}");

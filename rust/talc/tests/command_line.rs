@@ -58,12 +58,12 @@ fn behind_the_two_hyphens() {
 fn names_that_would_steer() {
     let folder = Folder::new("steering");
     let name = "a\u{1b}[2J\n\u{202e}b.psafe3";
-    let shown = "a\\u{1b}[2J\\u{a}\\u{202e}b.psafe3";
+    let shown = "a\\u{1b}[2J\\n\\u{202e}b.psafe3";
     let file = folder.put(name, &safe());
     let cases: [(&[&str], i32); 4] = [
         (&["check", path(&file), "--passphrase-stdin"], 0),
         (&["check", path(&file), "--ceiling", "0"], 6),
-        (&["find", path(&file), "nothing", "--passphrase-stdin"], 67),
+        (&["show", path(&file), "nothing", "--passphrase-stdin"], 67),
         (&["list", path(&file), "--state", path(&file)], 19),
     ];
     for (arguments, status) in cases {
@@ -78,8 +78,16 @@ fn names_that_would_steer() {
     assert_eq!((ended.status, ended.err.lines().count()), (66, 1));
     assert!(ended.err.contains("\\u{1b}") && !ended.err.contains('\u{1b}'), "{:?}", ended.err);
     assert_eq!(wrong(&["a\u{1b}b"]), "there is no command a\\u{1b}b");
-    assert_eq!(wrong(&["check", "f", "--a\nb"]), "there is no option --a\\u{a}b");
-    assert_eq!(wrong(&["show", "f", "a\tb"]), "the entry \"a\\u{9}b\" has control characters");
+    assert_eq!(wrong(&["check", "f", "--a\nb"]), "there is no option --a\\nb");
+    assert_eq!(wrong(&["show", "f", "a\tb"]), "the entry \"a\\tb\" has control characters");
+}
+
+/// Nothing, blanks, and control characters mean no entry.
+#[test]
+fn words_that_mean_nothing() {
+    for word in ["", " ", "a\u{1b}", "a\nb"] {
+        wrong(&["show", "f", word]);
+    }
 }
 
 #[test]
@@ -87,14 +95,14 @@ fn words_that_are_not_utf8() {
     let mut command = common::elsewhere::built(env!("CARGO_BIN_EXE_talc"));
     let output = command.args(["show", "f"]).arg(OsStr::from_bytes(b"S\xe4ge")).output().unwrap();
     assert_eq!(output.status.code(), Some(64));
-    let line = "talc: the entry \"S\\x{e4}ge\" is not UTF-8; try talc --help\n";
+    let line = "talc: the entry \"S\u{fffd}ge\" is not UTF-8; try talc --help\n";
     assert_eq!(String::from_utf8(output.stderr).unwrap(), line);
 }
 
 /// Refused before anything is read or asked for.
 #[test]
 fn options_that_do_not_go_together() {
-    let cases: [(&[&str], &str); 9] = [
+    let cases: [(&[&str], &str); 8] = [
         (&["list", "f", "--json", "--raw"], "--json and --raw do not go together"),
         (
             &["show", "f", "e", "--password", "--reveal"],
@@ -108,13 +116,12 @@ fn options_that_do_not_go_together() {
             &["find", "f", "lathe", "--json"],
             "--json goes with check, list, fields, show and rows alone",
         ),
-        (&["find", "f", "lathe", "--verbose"], "--verbose goes with a whole UUID alone"),
+        (&["show", "f", "lathe", "--verbose"], "--verbose goes with find alone"),
         (&["rows", "t", "--ceiling", "5"], "--ceiling does not go with rows"),
         (
             &["list", "-", "--passphrase-stdin"],
             "standard input can't be both the safe and the passphrase",
         ),
-        (&["check", "-", "-"], "standard input can be read once only"),
         (
             &["resave", "-", "g"],
             "this command reads no standard input: a file of the name - is ./-",

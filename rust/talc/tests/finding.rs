@@ -1,4 +1,4 @@
-//! `talc find` by words, and what ENTRY means.
+//! What ENTRY means: a number, a UUID or its start, or words.
 
 #[path = "../../tests/common/mod.rs"]
 mod common;
@@ -27,57 +27,60 @@ fn floor(folder: &Folder) -> PathBuf {
     folder.put("a.psafe3", &safe_of(&logins))
 }
 
-/// The numbers of the lines.
-fn found(file: &std::path::Path, words: &[&str]) -> (i32, Vec<String>) {
-    let ended = talc_with(&[&["find", path(file)], words].concat());
+/// The numbers of the entries that `show` finds: the one that it shows, or those that it tells.
+fn found(file: &std::path::Path, entry: &str) -> (i32, Vec<String>) {
+    let ended = talc_with(&["show", path(file), entry]);
     assert_eq!(ended.status == 0, ended.err.is_empty(), "{}", ended.err);
-    assert!(!ended.out.contains("secret") && !ended.out.contains('\u{1b}'), "{}", ended.out);
-    let number = |line: &str| line.split('\t').next().unwrap().to_string();
-    (ended.status, ended.out.lines().map(number).collect())
+    assert_eq!(ended.status == 0, !ended.out.is_empty(), "{}", ended.out);
+    let said = ended.out + &ended.err;
+    assert!(!said.contains("secret") && !said.contains('\u{1b}'), "{said}");
+    let number = |text: &str| text.split([',', '\n']).next().unwrap().to_string();
+    let told = said.split_once("give the number of one: ").map_or("", |(_, told)| told);
+    let numbers = match said.strip_prefix("record ") {
+        Some(shown) => vec![number(shown)],
+        None => told.split("; ").filter(|told| !told.is_empty()).map(number).collect(),
+    };
+    (ended.status, numbers)
 }
 
 #[test]
 fn by_words() {
     let folder = Folder::new("by-words");
     let file = floor(&folder);
-    let cases: [(&[&str], &[&str]); 12] = [
-        (&["lathe"], &["0", "1"]),
-        (&["LATHE", "worker"], &["0"]),
-        (&["lathe worker"], &["0"]),
-        (&["floor", "2"], &["0", "1"]),
-        (&["3"], &["0", "1", "4"]),
-        (&["müller"], &["2"]),
-        (&["SÄGE"], &["2"]),
-        (&["lathe", "müller"], &[]),
-        (&["secret"], &[]),
-        (&["deadbeef"], &["3"]),
-        (&["12345678"], &["4"]),
-        (&["floor"], &["0", "1", "2"]),
+    let cases: [(&str, &[&str]); 12] = [
+        ("lathe", &["0", "1"]),
+        ("LATHE worker", &["0"]),
+        ("worker lathe", &["0"]),
+        ("floor 2", &["0", "1"]),
+        ("3 floor", &["0", "1"]),
+        ("müller", &["2"]),
+        ("SÄGE", &["2"]),
+        ("lathe müller", &[]),
+        ("secret", &[]),
+        ("deadbeef", &["3"]),
+        ("12345678", &["4"]),
+        ("floor", &["0", "1", "2"]),
     ];
     for (words, numbers) in cases {
-        let status = if numbers.is_empty() { 67 } else { 0 };
-        assert_eq!(found(&file, words), (status, numbers.iter().map(|n| n.to_string()).collect()));
+        let status = [67, 0, 68][numbers.len().min(2)];
+        let numbers = numbers.iter().map(|number| number.to_string()).collect();
+        assert_eq!(found(&file, words), (status, numbers), "{words}");
     }
-    let line = "1\tLathe 30\tnina\tFloor 2.Lathes\n";
-    assert_eq!(talc_with(&["find", path(&file), "nina"]).out, line);
 }
 
-/// The first digits, from eight on; a whole UUID gives the fields, as it did.
+/// The first digits, from eight on.
 #[test]
 fn by_a_uuid() {
     let folder = Folder::new("by-uuid");
     let file = floor(&folder);
     let whole = "020202020202020202020202020202ff";
-    for digits in ["02020202", "0202-0202", "02020202020202020202020202020", &whole[..31]] {
-        assert_eq!(found(&file, &[digits]), (0, vec!["2".to_string()]), "{digits}");
+    let capital = whole.to_uppercase();
+    for digits in ["02020202", "0202-0202", &whole[..29], &whole[..31], whole, &capital] {
+        assert_eq!(found(&file, digits), (0, vec!["2".to_string()]), "{digits}");
     }
     for none in ["02020203", "0202020202020202020202020202020", "020202020202020202020202020202fe"]
     {
-        assert_eq!(found(&file, &[none]), (67, vec![]), "{none}");
-    }
-    for whole in [whole, &whole.to_uppercase()] {
-        let ended = talc_with(&["find", path(&file), whole]);
-        assert!(ended.out.starts_with("record 2\n") && ended.out.contains("Sägewerk"));
+        assert_eq!(found(&file, none), (67, vec![]), "{none}");
     }
 }
 
@@ -116,16 +119,17 @@ fn entries() {
     }
 }
 
-/// All are listed with their numbers, on standard error, and nothing is shown.
+/// All are told with their numbers, in one line on standard error, and nothing is shown.
 #[test]
 fn several_entries() {
     let folder = Folder::new("several-entries");
     let file = floor(&folder);
     let ended = talc_with(&["show", path(&file), "lathe"]);
     assert_eq!((ended.status, ended.out.as_str()), (68, ""));
-    let lines = "0  Lathe 3   worker  Floor 2.Lathes\n1  Lathe 30  nina    Floor 2.Lathes\n";
-    let head = format!("talc: {}: 2 entries match: give the number of one\n", file.display());
-    assert_eq!(ended.err, head + lines);
+    let head = format!("talc: {}: 2 entries match: give the number of one: ", file.display());
+    let first = r#"0, "Lathe 3", "worker", "Floor 2.Lathes""#;
+    let second = r#"1, "Lathe 30", "nina", "Floor 2.Lathes""#;
+    assert_eq!(ended.err, format!("{head}{first}; {second}\n"));
     // The same title twice: neither wins.
     let twice = [login("Mill", "a", ""), login("Mill", "b", "")];
     let file = folder.put("b.psafe3", &safe_of(&[&twice[0], &twice[1]]));

@@ -33,6 +33,44 @@ fn a_list() {
     assert_eq!(cancelled, [&Json::Flag(false), &Json::Flag(true)]);
 }
 
+/// Of what is refused, the line on standard error comes too.
+#[test]
+fn a_check() {
+    let folder = Folder::new("json-check");
+    let mut other = safe();
+    other[40] ^= 1;
+    let (good, wrong) = (folder.put("a\u{1b}.psafe3", &safe()), folder.put("b.psafe3", &other));
+    let check = |file: &std::path::Path| {
+        let ended = talc_with(&["check", path(file), "--json"]);
+        (ended.status, Json::read(&ended.out), ended.err)
+    };
+    let keys = [
+        "accepted",
+        "blocks",
+        "compressions",
+        "file",
+        "header_fields",
+        "message",
+        "records",
+        "status",
+    ];
+    let (status, object, err) = check(&good);
+    assert_eq!((status, object.keys(), err.as_str()), (0, keys.to_vec(), ""));
+    assert_eq!(object.at("file"), &Json::text(path(&good)));
+    assert_eq!(object.at("accepted"), &Json::Flag(true));
+    assert_eq!(object.at("records"), &Json::Number(2));
+    assert_eq!(object.at("message"), &Json::Null);
+    let (status, object, err) = check(&wrong);
+    assert_eq!((status, object.keys()), (8, keys.to_vec()));
+    assert!(err.contains("refused, 8: "), "{err}");
+    assert_eq!(object.at("accepted"), &Json::Flag(false));
+    assert_eq!(object.at("status"), &Json::Number(8));
+    assert_eq!(object.at("records"), &Json::Null);
+    // A passphrase that can't be read says nothing of the file.
+    let ended = talc(&["check", path(&good), "--json", "--passphrase-file", "/no/such"], b"");
+    assert_eq!((ended.status, ended.out.as_str()), (66, ""));
+}
+
 #[test]
 fn of_no_login() {
     let folder = Folder::new("json-none");

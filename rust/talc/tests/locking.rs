@@ -62,7 +62,7 @@ fn stopped(office: &Office, words: &[&str], call: &str) -> Child {
         ("SHIM_AT", "1"),
         ("SHIM_HOW", "stop"),
     ];
-    let child = shimmed(words, &settings).spawn().unwrap();
+    let mut child = shimmed(words, &settings).spawn().unwrap();
     let stat = format!("/proc/{}/stat", child.id());
     for _ in 0..6000 {
         let state = fs::read_to_string(&stat).unwrap();
@@ -71,6 +71,7 @@ fn stopped(office: &Office, words: &[&str], call: &str) -> Child {
         }
         sleep(Duration::from_millis(10));
     }
+    child.kill().and_then(|()| child.wait()).unwrap();
     panic!("it does not stop");
 }
 

@@ -81,7 +81,7 @@ fn with_find_alone() {
 fn help() {
     let ended = talc(&["--help", "--verbose"], b"");
     assert_eq!(ended.status, 0);
-    assert!(ended.out.contains("\n  --verbose               with find and a whole UUID: says"));
+    assert!(ended.out.contains("\n  --verbose               with find: says on standard error"));
 }
 
 /// Where standard error can't be written to, or is closed, the run ends as it would, with all its

@@ -102,7 +102,7 @@ fn the_list_by_a_state() {
     let file = folder.put("a.psafe3", &safe());
     let [first, second] = two_traces();
     let lines = |lathe: &str, printer: &str| {
-        let title = "Drehbank\\u{9}3\\u{1b}[2J \\t ä\tworker\tFloor.Lathes\t2030-03-17";
+        let title = "Drehbank\\t3\\u{1b}[2J \\\\t ä\tworker\tFloor.Lathes\t2030-03-17";
         format!("{title}\t{lathe}\nPrinter\t\t\t\t{printer}\n")
     };
     let cases = [
@@ -266,7 +266,7 @@ fn missing_files() {
     }
 }
 
-/// A folder, a device and a link to one keep their places. A link to a state is followed, and stays.
+/// A folder, a link and a device keep their places.
 #[test]
 fn no_regular_file() {
     let folder = Folder::new("replay-place");
@@ -276,20 +276,16 @@ fn no_regular_file() {
     let (link, taken) = (folder.0.join("link"), folder.0.join("taken"));
     symlink(&target, &link).unwrap();
     fs::create_dir(&taken).unwrap();
-    let to_taken = folder.0.join("to-taken");
-    symlink("taken", &to_taken).unwrap();
-    for state in [&to_taken, &taken, &PathBuf::from("/dev/null")] {
+    for state in [&link, &taken, &PathBuf::from("/dev/null")] {
         let ended = replay(state, &[&trace]);
         assert_eq!((ended.status, ended.out.as_str()), (73, ""), "{}", ended.err);
         assert!(ended.err.contains("no regular file"), "{}", ended.err);
     }
-    assert!(fs::read(&target).unwrap() == held);
-    assert_eq!(replay(&link, &[&trace]).status, 0);
     assert!(fs::symlink_metadata(&link).unwrap().is_symlink());
-    assert!(fs::read(&target).unwrap() == state_of(&[&two_traces()[0]]));
+    assert!(fs::read(&target).unwrap() == held);
     let nowhere = folder.0.join("no/such/state");
     assert_eq!(replay(&nowhere, &[&trace]).status, 73);
-    assert_eq!(folder.names(), ["a.trace", "link", "taken", "target.state", "to-taken"]);
+    assert_eq!(folder.names(), ["a.trace", "link", "taken", "target.state"]);
     assert_eq!(fs::read_dir(&taken).unwrap().count(), 0);
 }
 

@@ -53,6 +53,7 @@ fn as_nobody(arguments: &[&str]) -> Output {
     command.output().unwrap()
 }
 
+/// Of a safe that is changed in place; what is written as OUT has mode 0600.
 #[test]
 fn mode_and_owner_stay() {
     for wanted in [0o600, 0o640, 0o664, 0o604] {
@@ -68,14 +69,32 @@ fn mode_and_owner_stay() {
         chown(&out, Some(before.uid()), Some(before.gid())).unwrap();
         let words = ["resave", path(&office.file), path(&out), "--passphrase-stdin"];
         assert_eq!(talc(&words, PASSPHRASE).status, 0);
-        for file in [&office.file, &office.backup(), &out] {
+        for file in [&office.file, &office.backup()] {
             let after = fs::metadata(file).unwrap();
             let of = |held: &fs::Metadata| (held.uid(), held.gid(), held.mode());
             assert_eq!(of(&after), of(&before), "{}", file.display());
         }
+        let (after, owner) = (fs::metadata(&out).unwrap(), (before.uid(), before.gid()));
+        assert_eq!(((after.uid(), after.gid()), after.mode() & 0o7777), (owner, 0o600));
         assert_ne!(fs::metadata(&office.file).unwrap().ino(), before.ino(), "a new file");
         assert_eq!(fs::metadata(office.backup()).unwrap().ino(), before.ino(), "the old file");
     }
+}
+
+/// A table or a state has mode 0600 too, whatever the file had that it replaces.
+#[test]
+fn tables_and_states_are_private() {
+    let office = Office::new("private");
+    let (table, state) = (office.folder.put("table", b""), office.folder.0.join("state"));
+    let trace = office.folder.put("trace", &[&[9; 16][..], &[1, 0, 0, 0, 2], &[0; 11]].concat());
+    fs::write(&state, vec![0; 131_072]).unwrap();
+    for file in [&table, &state] {
+        fs::set_permissions(file, Permissions::from_mode(0o664)).unwrap();
+    }
+    office.done("table", &[path(&table)]);
+    let ended = talc(&["replay", path(&state), path(&trace)], b"");
+    assert_eq!(ended.status, 0, "{}", ended.err);
+    assert_eq!((mode(&table), mode(&state)), (0o600, 0o600));
 }
 
 /// Where the group can't be kept, the new one gets nothing by it.

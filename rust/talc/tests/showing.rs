@@ -53,10 +53,10 @@ fn every_field_whole() {
         &format!("{aside}\\u{{1b}}last"),
         "Password                     (hidden)",
         "Password Expiry Time         2030-03-17 17:46:40 UTC",
-        "Username                     S\\x{e4}ge",
+        "Username                     S\u{fffd}ge",
         &format!("{aside}(BadText: goes wrong at byte 1 (from 0))"),
         "URL",
-        "Password Policy              \\x{ab}\\x{cd}",
+        "Password Policy              \u{fffd}\u{fffd}",
         &format!("{aside}(BadText: goes wrong at byte 0 (from 0))"),
         "Two-Factor Key               (hidden)",
         &format!("Implementation-specific      (Opaque, in hex) {hex}"),
@@ -92,7 +92,7 @@ fn revealed_at_a_terminal() {
     assert!(!shown.contains("ss word") && shown.contains("(hidden)"), "{shown}");
     let (status, _, shown) = Terminal::talc(&arguments).ends();
     assert_eq!(status, Some(0));
-    assert!(shown.contains("Password                     pä\\\\u{1b}ss word \r\n"), "{shown}");
+    assert!(shown.contains("Password                     pä\\\\\\u{1b}ss word \r\n"), "{shown}");
     assert!(
         shown.contains("Two-Factor Key               (Opaque, in hex) 01026b6579\r\n"),
         "{shown}"

@@ -1,4 +1,5 @@
-//! Signals at the prompt: what ends or suspends `talc` there leaves the terminal as it was.
+//! Signals at the prompt: what ends or suspends `talc` there leaves the terminal as it was. Its keys
+//! send none.
 
 #[path = "../../tests/common/mod.rs"]
 mod common;
@@ -6,28 +7,20 @@ mod process;
 
 use process::terminal::Terminal;
 use process::*;
+use std::fs;
+
+extern "C" {
+    fn kill(process: i32, signal: i32) -> i32;
+}
 
 const INTERRUPT: i32 = 2;
+const SUSPEND: i32 = 20;
 
 fn asked(file: &std::path::Path) -> Terminal {
     let mut terminal = Terminal::talc(&["list", path(file)]);
     terminal.shows("Passphrase: ");
     assert!(!terminal.is_as_before());
     terminal
-}
-
-/// The key, at once and in the midst of a line; the process dies by the signal.
-#[test]
-fn interrupted_by_the_key() {
-    let folder = Folder::new("interrupted");
-    let file = folder.put("a.psafe3", &safe());
-    for keys in [&b"\x03"[..], b"flo\x03"] {
-        let mut terminal = asked(&file);
-        terminal.types(keys);
-        let (status, signal, shown) = terminal.ends();
-        assert_eq!((status, signal), (None, Some(INTERRUPT)), "{shown}");
-        assert_eq!(shown.replace("^C", ""), "Passphrase: \r\n");
-    }
 }
 
 #[test]
@@ -42,32 +35,22 @@ fn ended_by_others() {
     }
 }
 
-/// A shell's loop ends when what it runs dies by the interrupt.
-#[test]
-fn a_loop_stops() {
-    let folder = Folder::new("loop");
-    let file = folder.put("a.psafe3", &safe());
-    let script = format!("for i in 1 2; do $TALC list {}; echo again; done", path(&file));
-    let mut terminal = Terminal::shell(&["bash"], &script);
-    terminal.shows("Passphrase: ");
-    terminal.types(b"\x03");
-    let (_, signal, shown) = terminal.ends();
-    assert_eq!(signal, Some(INTERRUPT), "{shown}");
-    assert!(!shown.contains("again"), "{shown}");
-}
-
-/// Suspended, the terminal is as it was; after it, nothing typed is shown, and the passphrase is
-/// taken. Twice.
+/// Suspended by another, the terminal is as it was; after it, nothing typed is shown, and the
+/// passphrase is taken. Twice.
 #[test]
 fn suspended() {
     let folder = Folder::new("suspended");
     let file = folder.put("a.psafe3", &safe());
+    let number = folder.0.join("number");
+    let run = format!("sh -c 'echo $$ >{}; exec $TALC list {}'", path(&number), path(&file));
     let stopped = "echo \"status $?\"; printf 'Go on? '; read line; fg";
-    let script = format!("$TALC list {}; {stopped}; {stopped}; echo \"end $?\"", path(&file));
+    let script = format!("{run}; {stopped}; {stopped}; echo \"end $?\"");
     let mut terminal = Terminal::shell(&["bash", "-m"], &script);
     terminal.shows("Passphrase: ");
+    let talc = fs::read_to_string(&number).unwrap().trim().parse().unwrap();
     for _ in 0..2 {
-        terminal.types(b"flo\x1a");
+        terminal.types(b"flo");
+        assert_eq!(unsafe { kill(talc, SUSPEND) }, 0);
         terminal.shows("Go on? ");
         assert!(terminal.is_as_before(), "while it is suspended");
         terminal.types(b"\n");

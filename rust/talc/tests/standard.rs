@@ -69,7 +69,7 @@ fn a_safe_from_input() {
         &["check", "-"],
         &["list", "-"],
         &["fields", "-"],
-        &["find", "-", "printer"],
+        &["find", "-", "09090909090909090909090909090909"],
         &["show", "-", "1"],
         &["table", "-", path(&out), "--now=5"],
     ];

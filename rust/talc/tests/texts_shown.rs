@@ -15,14 +15,12 @@ const USER: u8 = 0x04;
 #[test]
 fn backslashes() {
     let folder = Folder::new("backslashes");
-    let cases: [(&[u8], &str); 7] = [
-        (b"OFFICE\\nina", "OFFICE\\nina"),
-        (b"OFFICE\\user", "OFFICE\\user"),
-        (b"\\\\server\\tools\\", "\\\\server\\tools\\"),
-        (b"a\tb", "a\\u{9}b"),
-        (b"a\\u{9}b", "a\\u{5c}u{9}b"),
-        (b"a\\\tb", "a\\\\u{9}b"),
-        (b"a\\x{ff}b", "a\\u{5c}x{ff}b"),
+    let cases: [(&[u8], &str); 5] = [
+        (b"OFFICE\\nina", "OFFICE\\\\nina"),
+        (b"\\\\server\\tools\\", "\\\\\\\\server\\\\tools\\\\"),
+        (b"a\tb", "a\\tb"),
+        (b"a\\tb", "a\\\\tb"),
+        (b"a\\\tb", "a\\\\\\tb"),
     ];
     for (user, shown) in cases {
         let file = folder.put("a.psafe3", &safe_of(&[&[part(TITLE, b"Lathe"), part(USER, user)]]));
@@ -40,12 +38,10 @@ fn damaged_texts() {
     let folder = Folder::new("damaged-texts");
     let file =
         folder.put("a.psafe3", &safe_of(&[&[part(TITLE, b"S\xe4ge"), part(USER, b"nina\0")]]));
-    let title = "S\\x{e4}ge (BadText: goes wrong at byte 1 (from 0))";
+    let title = "S\u{fffd}ge (BadText: goes wrong at byte 1 (from 0))";
     let user = "nina\\u{0} (BadText: goes wrong at byte 4 (from 0))";
     let list = talc_with(&["list", path(&file)]);
     assert_eq!((list.status, list.out), (0, format!("{title}\t{user}\t\t\n")));
-    let find = talc_with(&["find", path(&file), "nina"]);
-    assert_eq!((find.status, find.out), (0, format!("0\t{title}\t{user}\t\n")));
     let stored = folder.put("passphrase", PASSPHRASE);
     let mut command = common::elsewhere::built(env!("CARGO_BIN_EXE_talc"));
     command.args(["list", path(&file), "--raw", "--passphrase-file", path(&stored)]);

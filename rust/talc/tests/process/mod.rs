@@ -86,8 +86,7 @@ pub fn talc(arguments: &[&str], stdin: &[u8]) -> Ended {
     };
     assert!(!ended.err.contains("panicked"), "{}", ended.err);
     assert!(ended.status == 0 || !ended.err.is_empty(), "a status without a word");
-    // Of several entries that match, each has a line.
-    assert!(ended.status == 68 || ended.err.lines().count() <= 2, "one clear line: {}", ended.err);
+    assert!(ended.err.lines().count() <= 2, "one clear line: {}", ended.err);
     ended
 }
 

@@ -139,5 +139,6 @@ impl Office {
 pub fn one_login(header: &[Part], login: &[Part]) -> Vec<Part> {
     let [version, end] = [part(0x00, &[0x0e, 0x03]), part(END, &[])];
     let needed = [part(0x01, &[9; 16]), part(0x03, b"Printer"), part(0x06, b"old")];
-    [&[version], header, std::slice::from_ref(&end), &needed, login, &[end.clone()]].concat()
+    let end = std::slice::from_ref(&end);
+    [&[version], header, end, &needed, login, end].concat()
 }
