@@ -12,7 +12,7 @@ use talcfeather::Refusal;
 #[test]
 fn every_call() {
     let told = "1 1 0 11 3 12 9 9 19 19 0 16 0 0 0 1 1 5 0 0 16 1 ".to_string();
-    let told = told + "6 32 0 1 0 32 3 0 0 0 0 6 0 0 0 1 2 0 1 5 0 1 3 0 1 0 0 ";
+    let told = told + "5 32 0 1 0 32 3 0 0 0 0 6 0 0 0 1 2 0 1 5 0 1 3 0 1 0 0 ";
     let told = told + "1 1247505533 0 1 1247505533 0 1 4275878552 0 0 0 1 0 0 1 9 9 0 112 ";
     let told = told + "9 3 0 0 0 18 18 0 1 0 1 0 1 1 0 5 80 72 -2\n";
     for language in languages() {

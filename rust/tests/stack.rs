@@ -360,6 +360,6 @@ fn tables() {
 #[test]
 fn the_version() {
     let mut uses = Uses::of("VERSION");
-    uses.run(6, &mut || unsafe { raw::talc_version() });
+    uses.run(5, &mut || unsafe { raw::talc_version() });
     uses.tight();
 }
