@@ -99,7 +99,7 @@
 //! # What is wiped
 //!
 //! - the keys of [`Opened`] and of [`Parts`], and the whole workspace, when these are dropped;
-//! - the stack that reading and writing took, when [`read`], [`read_counted`] or [`write`] returns,
+//! - the stack that reading and writing took, when [`read`], [`read_counted`] or [`write`](write()) returns,
 //!   accepted or refused: [`STACK`] bytes of it.
 //!
 //! Not wiped: what is the caller's own, such as the passphrase, the buffer of a [`Builder`], a copy of a
@@ -109,7 +109,7 @@
 //!
 //! # Stack
 //!
-//! [`judge`], [`find`] and [`export`] take some 54,600 bytes of stack, [`read`] and [`write`] take
+//! [`judge`], [`find`] and [`export`] take some 54,600 bytes of stack, [`read`] and [`write`](write()) take
 //! [`STACK`] and some. A thread that calls them needs as much.
 //!
 //! # The archive
