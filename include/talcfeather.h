@@ -151,10 +151,10 @@ extern "C" {
  * 4: talc_walk() tells where a BADTEXT goes wrong, as its value; before, that
  *    was 0. No answer has another size.
  * 5: talc_walk() tells eight hex digits in header 04 and 13 as TIME; before,
- *    they were MISSHAPEN. No answer has another size.
- * 6: talc_version() is there: an older archive does not link with it.
+ *    they were MISSHAPEN. No answer has another size. talc_version() came
+ *    within 5: the first archives of 5 do not link with it.
  */
-#define TALC_VERSION 6
+#define TALC_VERSION 5
 
 /* The archive's version: TALC_VERSION of the header that came with it. */
 uint32_t talc_version(void);

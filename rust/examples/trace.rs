@@ -15,7 +15,7 @@
 
 use std::error::Error;
 use std::io::stdin;
-use talcfeather::{trace_record, Kind, TRACE_RECORD};
+use talcfeather::{trace_record, Kind, Uuid, TRACE_RECORD};
 
 fn record(line: &str) -> Result<[u8; TRACE_RECORD], Box<dyn Error>> {
     let words: Vec<&str> = line.split_whitespace().collect();
@@ -28,7 +28,7 @@ fn record(line: &str) -> Result<[u8; TRACE_RECORD], Box<dyn Error>> {
         "reissue" => Kind::Reissue,
         _ => return Err("a kind is edit, cancel or reissue".into()),
     };
-    Ok(trace_record(login.parse()?, time.parse()?, kind))
+    Ok(trace_record(login.parse::<Uuid>()?, time.parse()?, kind))
 }
 
 fn main() -> Result<(), Box<dyn Error>> {

@@ -13,7 +13,7 @@ pub struct Counts {
 }
 
 /// What a search came to.
-#[derive(Clone, Copy, Debug)]
+#[derive(Clone, Copy, Debug, PartialEq, Eq)]
 pub struct Search<'b> {
     /// The record, or none.
     pub found: Option<Record<'b>>,
@@ -56,6 +56,13 @@ pub fn judge(body: &[u8]) -> Result<Counts, Refusal> {
 /// Nothing is written but the answer.
 ///
 /// ```
+/// use talcfeather::{find, Search};
+///
+/// let body = *b"\x02\0\0\0\0\x0e\x03.........\0\0\0\0\xff...........";
+/// assert_eq!(find(&body, &[7; 16]), Ok(Search { found: None, visited: 2 }));
+/// ```
+///
+/// ```
 /// use talcfeather::{find, record, Builder, Refusal, Uuid};
 ///
 /// let (lathe, mill) = (Uuid([7; 16]), Uuid([8; 16]));
@@ -80,13 +87,14 @@ pub fn judge(body: &[u8]) -> Result<Counts, Refusal> {
 /// assert!(find(&body, Uuid([9; 16]))?.found.is_none());
 ///
 /// let body = body_of([mill, mill])?;
-/// assert_eq!(find(&body, lathe).unwrap_err(), Refusal::Body);
+/// assert_eq!(find(&body, mill), Err(Refusal::Body));
+/// assert_eq!(find(&body, lathe), Err(Refusal::Body));
 /// # Ok::<(), Refusal>(())
 /// ```
-pub fn find(body: &[u8], uuid: Uuid) -> Result<Search<'_>, Refusal> {
-    let mut answer = [0u8; 32];
+pub fn find(body: &[u8], uuid: impl Into<Uuid>) -> Result<Search<'_>, Refusal> {
+    let (Uuid(uuid), mut answer) = (uuid.into(), [0u8; 32]);
     // Sound: the slices are lent for the call, and the answer has the size that the call sets.
-    let number = unsafe { raw::talc_find(body.as_ptr(), body.len(), &uuid.0, &mut answer) };
+    let number = unsafe { raw::talc_find(body.as_ptr(), body.len(), &uuid, &mut answer) };
     Refusal::outcome(number)?;
     let [found, record, place, visited] = numbers(&answer);
     let found = (found != 0).then(|| Record::at(body, record, place as usize).0);

@@ -58,10 +58,48 @@
 //! # Ok::<(), Box<dyn std::error::Error>>(())
 //! ```
 //!
+//! Under these are calls that take one field at a time: a body is made, written, read and walked.
+//!
+//! ```
+//! use talcfeather::{append, fill_needed, read, walk, write, Cursor, Parts, Value};
+//!
+//! // A body: header (Version), then one record (UUID, Title, Password).
+//! let mut body = [0u8; 112];
+//! let fields: [(u8, &[u8]); 6] = [
+//!     (0x00, &[0x0e, 0x03]),
+//!     (0xff, b""),
+//!     (0x01, &[7; 16]),
+//!     (0x03, b"Lathe"),
+//!     (0x06, b"x"),
+//!     (0xff, b""),
+//! ];
+//! let mut place = 0;
+//! for (kind, data) in fields {
+//!     let fill = [0u8; 15]; // from a random source, in a real file
+//!     place = append(&mut body, place, kind, data, &fill[..fill_needed(data.len())])?;
+//! }
+//! assert_eq!(place, body.len());
+//!
+//! // Salt, keys and initial vector come from a random source, in a real file.
+//! let parts = Parts { salt: [1; 32], iter: 2048, k: [2; 32], l: [3; 32], iv: [4; 16] };
+//! let mut file = [0u8; 312];
+//! write(b"passphrase", &parts, &body, &mut file)?;
+//!
+//! let mut workspace = [0u8; 112];
+//! let opened = read(&file, b"passphrase", 1_000_000, &mut workspace)?;
+//! assert_eq!((opened.counts.header_fields, opened.counts.records), (1, 1));
+//! assert_eq!(opened.body(), body);
+//!
+//! let (version, next) = walk(opened.body(), Cursor::START)?.expect("a first field");
+//! assert_eq!(version.value, Value::Number(0x030e));
+//! assert_eq!(next.place, 16);
+//! # Ok::<(), talcfeather::Refusal>(())
+//! ```
+//!
 //! # What is wiped
 //!
 //! - the keys of [`Opened`] and of [`Parts`], and the whole workspace, when these are dropped;
-//! - the stack that reading and writing took, when [`read`], [`read_counted`] or [`write`] returns,
+//! - the stack that reading and writing took, when [`read`], [`read_counted`] or [`write`](write()) returns,
 //!   accepted or refused: [`STACK`] bytes of it.
 //!
 //! Not wiped: what is the caller's own, such as the passphrase, the buffer of a [`Builder`], a copy of a
@@ -71,7 +109,7 @@
 //!
 //! # Stack
 //!
-//! [`judge`], [`find`] and [`export`] take some 54,600 bytes of stack, [`read`] and [`write`] take
+//! [`judge`], [`find`] and [`export`] take some 54,600 bytes of stack, [`read`] and [`write`](write()) take
 //! [`STACK`] and some. A thread that calls them needs as much.
 //!
 //! # The archive

@@ -71,6 +71,16 @@ impl Drop for Opened<'_> {
     }
 }
 
+/// The same keys, counts and body.
+impl PartialEq for Opened<'_> {
+    fn eq(&self, other: &Opened<'_>) -> bool {
+        let keys = (&self.k, &self.l) == (&other.k, &other.l);
+        keys && self.counts == other.counts && self.body() == other.body()
+    }
+}
+
+impl Eq for Opened<'_> {}
+
 /// Shows the counts and no secret.
 impl fmt::Debug for Opened<'_> {
     fn fmt(&self, f: &mut fmt::Formatter<'_>) -> fmt::Result {

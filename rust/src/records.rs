@@ -19,6 +19,16 @@ pub struct Record<'b> {
     body: &'b [u8],
 }
 
+/// The same number, place and bytes.
+impl PartialEq for Record<'_> {
+    fn eq(&self, other: &Record<'_>) -> bool {
+        let at = (self.number, self.place) == (other.number, other.place);
+        at && self.body.get(self.place..) == other.body.get(other.place..)
+    }
+}
+
+impl Eq for Record<'_> {}
+
 /// Shows where it is and no secret.
 impl fmt::Debug for Record<'_> {
     fn fmt(&self, f: &mut fmt::Formatter<'_>) -> fmt::Result {

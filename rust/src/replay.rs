@@ -29,15 +29,15 @@ pub struct Standing {
 /// One record of a trace, as it is stored: a trace is these, one after the other.
 ///
 /// ```
-/// use talcfeather::{trace_record, Kind, Uuid};
-/// let record = trace_record(Uuid([7; 16]), 0x0102_0304, Kind::Cancel);
+/// use talcfeather::{trace_record, Kind};
+/// let record = trace_record(&[7; 16], 0x0102_0304, Kind::Cancel);
 /// assert_eq!(record[..16], [7; 16]);
 /// assert_eq!(record[16..21], [4, 3, 2, 1, 2]);
 /// assert_eq!(record[21..], [0; 11]);
 /// ```
-pub fn trace_record(uuid: Uuid, time: u32, kind: Kind) -> [u8; TRACE_RECORD] {
+pub fn trace_record(uuid: impl Into<Uuid>, time: u32, kind: Kind) -> [u8; TRACE_RECORD] {
     let mut record = [0; TRACE_RECORD];
-    record[..16].copy_from_slice(&uuid.0);
+    record[..16].copy_from_slice(&uuid.into().0);
     record[16..20].copy_from_slice(&time.to_le_bytes());
     record[20] = kind as u8;
     record
@@ -103,19 +103,19 @@ pub fn replay(state: &mut [u8], trace: &[u8]) -> Result<(), Refusal> {
 /// Nothing is written but the answer.
 ///
 /// ```
-/// use talcfeather::{replay, standing, trace_record, Kind, Standing, Uuid, STATE_SIZE};
+/// use talcfeather::{replay, standing, trace_record, Kind, Standing, STATE_SIZE};
 ///
-/// let (mut state, lathe) = ([0u8; STATE_SIZE], Uuid([1; 16]));
-/// assert_eq!(standing(&state, lathe), Ok(Standing::default()));
-/// replay(&mut state, &trace_record(lathe, 500, Kind::Cancel))?;
+/// let mut state = [0u8; STATE_SIZE];
+/// assert_eq!(standing(&state, &[1; 16]), Ok(Standing::default()));
+/// replay(&mut state, &trace_record(&[1; 16], 500, Kind::Cancel))?;
 /// let expected = Standing { cancelled: true, cancel: Some(500), reissue: None };
-/// assert_eq!(standing(&state, lathe), Ok(expected));
+/// assert_eq!(standing(&state, &[1; 16]), Ok(expected));
 /// # Ok::<(), talcfeather::Refusal>(())
 /// ```
-pub fn standing(state: &[u8], uuid: Uuid) -> Result<Standing, Refusal> {
-    let mut answer = [0u8; 40];
+pub fn standing(state: &[u8], uuid: impl Into<Uuid>) -> Result<Standing, Refusal> {
+    let (Uuid(uuid), mut answer) = (uuid.into(), [0u8; 40]);
     // Sound: the slices are lent for the call, and the answer has the size that the call sets.
-    let number = unsafe { raw::talc_standing(state.as_ptr(), state.len(), &uuid.0, &mut answer) };
+    let number = unsafe { raw::talc_standing(state.as_ptr(), state.len(), &uuid, &mut answer) };
     Refusal::outcome(number)?;
     let [cancelled, has_cancel, cancel, has_reissue, reissue] = numbers(&answer);
     let time = |has: u64, time: u64| (has != 0).then_some(time as u32);

@@ -41,9 +41,8 @@ pub fn read<'w>(
     ceiling: u32,
     workspace: &'w mut [u8],
 ) -> Result<Opened<'w>, Refusal> {
-    let outcome = reading(file, passphrase, ceiling, workspace, &mut Work::default());
-    stack::clear();
-    outcome
+    let _clearing = stack::Clearing;
+    reading(file, passphrase, ceiling, workspace, &mut Work::default())
 }
 
 /// Reads a whole file, and reports the work it took, refused or not. All else is as [`read`] says.
@@ -65,9 +64,20 @@ pub fn read_counted<'w>(
     ceiling: u32,
     workspace: &'w mut [u8],
 ) -> (Result<Opened<'w>, Refusal>, Work) {
+    let _clearing = stack::Clearing;
+    counting(file, passphrase, ceiling, workspace)
+}
+
+/// As [`reading`], below.
+#[inline(never)]
+fn counting<'w>(
+    file: &[u8],
+    passphrase: &[u8],
+    ceiling: u32,
+    workspace: &'w mut [u8],
+) -> (Result<Opened<'w>, Refusal>, Work) {
     let mut work = Work::default();
     let outcome = reading(file, passphrase, ceiling, workspace, &mut work);
-    stack::clear();
     (outcome, work)
 }
 

@@ -14,3 +14,14 @@ pub const STACK: usize = 65_536;
 pub(crate) fn clear() {
     wipe(&mut [0; STACK]);
 }
+
+/// Clears the same when the function that holds it returns. For one that returns what its last call
+/// makes: that is made in its place then, where a variable would be moved there, and leave a copy.
+pub(crate) struct Clearing;
+
+impl Drop for Clearing {
+    #[inline(always)]
+    fn drop(&mut self) {
+        clear();
+    }
+}

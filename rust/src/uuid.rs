@@ -4,7 +4,8 @@ use core::fmt;
 use core::str::FromStr;
 
 /// The 16 bytes of a UUID, in the order in which they are stored. Prints as 32 hex digits; read from
-/// 32 of either case, with or without hyphens, wherever these stand.
+/// 32 of either case, with or without hyphens, wherever these stand. [`find`](crate::find()),
+/// [`standing`](crate::standing()) and [`trace_record`](crate::trace_record()) take the bytes too.
 ///
 /// ```
 /// use talcfeather::Uuid;
@@ -72,9 +73,27 @@ impl From<[u8; 16]> for Uuid {
     }
 }
 
+impl From<&[u8; 16]> for Uuid {
+    fn from(bytes: &[u8; 16]) -> Uuid {
+        Uuid(*bytes)
+    }
+}
+
 impl From<Uuid> for [u8; 16] {
     fn from(uuid: Uuid) -> [u8; 16] {
         uuid.0
+    }
+}
+
+impl PartialEq<[u8; 16]> for Uuid {
+    fn eq(&self, bytes: &[u8; 16]) -> bool {
+        self.0 == *bytes
+    }
+}
+
+impl PartialEq<Uuid> for [u8; 16] {
+    fn eq(&self, uuid: &Uuid) -> bool {
+        *self == uuid.0
     }
 }
 

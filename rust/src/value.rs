@@ -8,6 +8,18 @@ use core::fmt;
 /// Where a text goes wrong, here at its third byte:
 ///
 /// ```
+/// use talcfeather::{walk, Cursor, Value};
+///
+/// let title = *b"\x05\0\0\0\x03La\xffhe\0\0\0\0\0\0";
+/// let (field, _) = walk(&title, Cursor { place: 0, in_record: true })?.expect("a field");
+/// assert_eq!(field.value, Value::BadText(2));
+/// assert_eq!(&field.data[..2], b"La");
+/// # Ok::<(), talcfeather::Refusal>(())
+/// ```
+///
+/// The same title in a body:
+///
+/// ```
 /// use talcfeather::{records, Value};
 ///
 /// let body = *b"\0\0\0\0\xff...........\x05\0\0\0\x03La\xffhe......\0\0\0\0\xff...........";

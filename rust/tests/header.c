@@ -7,6 +7,23 @@
 
 #include "talcfeather.h"
 
+/* Programs that are older than the names have these numbers in their place. */
+#if TALC_WALK_AT_FIELD != 0 || TALC_WALK_AT_NEXT_PLACE != 8 || TALC_WALK_AT_NEXT_IN_RECORD != 16 || \
+    TALC_WALK_AT_TYPE != 24 || TALC_WALK_AT_PLACE != 32 || TALC_WALK_AT_LENGTH != 40 ||             \
+    TALC_WALK_AT_KIND != 48 || TALC_WALK_AT_VALUE != 56 || TALC_WALK_AT_SECOND_HALF != 64
+#error "a field's numbers stand elsewhere"
+#endif
+#if TALC_FIND_AT_PLACE != 16 || TALC_IMPORT_AT_ROWS != 0 || TALC_IMPORT_AT_ROW != 8
+#error "the numbers of a search or a table stand elsewhere"
+#endif
+#if TALC_ROW_AT_UUID != 8 || TALC_ROW_AT_TITLE_LENGTH != 24 || TALC_ROW_AT_USER_LENGTH != 32 ||     \
+    TALC_ROW_AT_DAYS != 48
+#error "a row's numbers stand elsewhere"
+#endif
+#if TALC_RECORD_TITLE != 0x03 || TALC_RECORD_USER != 0x04 || TALC_END != 0xff
+#error "types have other numbers"
+#endif
+
 static uint8_t state[TALC_STATE_SIZE];
 /* A cancel at time 5; and a reissue at 6 with a record of zeros, which has no kind, behind it. */
 static const uint8_t trace[TALC_TRACE_RECORD] = {

@@ -132,7 +132,10 @@ fn well_formed_bodies() {
         for record in records(&body).flatten() {
             let found = find(&body, record.uuid().unwrap()).unwrap().found.unwrap();
             assert_eq!(apart(found), apart(record));
+            assert_eq!(found, record);
         }
+        let all: Vec<Record> = records(&body).flatten().collect();
+        assert!(all.windows(2).all(|pair| pair[0] != pair[1]));
     }
 }
 
@@ -253,6 +256,32 @@ fn of_a_file_that_was_read() {
     let mill = opened.find(Uuid([8; 16])).unwrap();
     assert_eq!(mill.found.and_then(|mill| mill.text(record::TITLE)), Some("Mill"));
     assert_eq!(opened.find(Uuid([9; 16])).unwrap().visited, fields(&body).count() as u64);
+}
+
+/// Of the same file they are equal, whatever stands behind the body; not of another.
+#[test]
+fn files_that_were_read() {
+    let body = join(&mut Random(9), &two());
+    let parts = Parts { salt: [1; 32], iter: 2048, k: [2; 32], l: [3; 32], iv: [4; 16] };
+    let others = [
+        (parts.clone(), join(&mut Random(10), &two())),
+        (Parts { k: [5; 32], ..parts.clone() }, body.clone()),
+        (Parts { l: [5; 32], ..parts.clone() }, body.clone()),
+    ];
+    let file_of = |parts: &Parts, body: &[u8]| {
+        let mut file = vec![0; body.len() + 200];
+        write(b"pass", parts, body, &mut file).unwrap();
+        file
+    };
+    let file = file_of(&parts, &body);
+    let [mut first, mut second] = [0, 9].map(|more| vec![0xEE; body.len() + more]);
+    let opened = read(&file, b"pass", 2048, &mut first).unwrap();
+    assert!(read(&file, b"pass", 2048, &mut second).unwrap() == opened);
+    for (parts, body) in others {
+        let mut third = vec![0; body.len()];
+        assert!(read(&file_of(&parts, &body), b"pass", 2048, &mut third).unwrap() != opened);
+    }
+    assert_eq!(read(&file, b"past", 2048, &mut second), Err(Refusal::Wrong));
 }
 
 /// No byte of a body is in what is printed of it: it may be a password.

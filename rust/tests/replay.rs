@@ -188,7 +188,7 @@ fn empty_traces() {
 }
 
 fn standing(state: &[u8], uuid: &Uuid) -> Standing {
-    talcfeather::standing(state, talcfeather::Uuid(*uuid)).unwrap()
+    talcfeather::standing(state, uuid).unwrap()
 }
 
 /// A cancel and a reissue at every pair of times, in both orders, in one trace and in two.

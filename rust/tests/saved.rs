@@ -6,14 +6,38 @@ mod common;
 use common::calls::{import_ours, import_theirs, row_ours, row_theirs, Export, Read, Write};
 use common::tables::NOW;
 use peer::random::Random;
-use peer::saved::{files, hex, Listing, Saved};
-use talcfeather::{fields, find, read_counted, record, records, row, write, Opened, Parts, Uuid};
+use peer::saved::{files, hex, unhex, Listing, Saved};
+use talcfeather::{
+    fields, find, read_counted, record, records, row, walk, write, Cursor, Opened, Parts, Search,
+    Uuid, Value, END,
+};
 
 const LISTED: [u8; 6] =
     [record::GROUP, record::TITLE, record::USER, record::NOTES, record::PASSWORD, record::URL];
 
-/// The listing by the library's own records: group, title, user, notes, password, URL.
+/// The listing by the library's own walk: group, title, user, notes, password, URL.
 fn listing(body: &[u8]) -> Listing {
+    let mut records = Listing::new();
+    let (mut at, mut uuid, mut texts) = (Cursor::START, String::new(), Vec::new());
+    while let Some((field, next)) = walk(body, at).expect("a field") {
+        match (at.in_record, field.kind, field.value) {
+            (true, 0x01, _) => uuid = hex(field.data),
+            (true, 0x02..=0x06 | 0x0d, Value::Text(text)) => {
+                assert_eq!(text.as_bytes(), field.data);
+                texts.push((hex(&[field.kind]), text.to_string()));
+            }
+            (true, END, _) => {
+                records.insert(std::mem::take(&mut uuid), texts.drain(..).collect());
+            }
+            _ => {}
+        }
+        at = next;
+    }
+    records
+}
+
+/// The same by its records.
+fn listing_of_records(body: &[u8]) -> Listing {
     let texts = |login: &talcfeather::Record| {
         let text = |kind| Some((hex(&[kind]), login.text(kind)?.to_string()));
         LISTED.into_iter().filter_map(text).collect()
@@ -23,7 +47,20 @@ fn listing(body: &[u8]) -> Listing {
 }
 
 /// The fields up to a record's UUID, or all, by the library's own walk.
-fn walked(body: &[u8], uuid: Uuid) -> u64 {
+fn walked(body: &[u8], uuid: &[u8; 16]) -> u64 {
+    let (mut at, mut fields) = (Cursor::START, 0);
+    while let Some((field, next)) = walk(body, at).expect("a field") {
+        fields += 1;
+        if at.in_record && field.kind == 0x01 && field.data == uuid {
+            break;
+        }
+        at = next;
+    }
+    fields
+}
+
+/// The same by its fields.
+fn walked_on(body: &[u8], uuid: Uuid) -> u64 {
     let (mut in_record, mut walked) = (false, 0);
     for field in fields(body) {
         let field = field.expect("a field");
@@ -31,7 +68,7 @@ fn walked(body: &[u8], uuid: Uuid) -> u64 {
         if in_record && field.kind == record::UUID && field.data == uuid.0 {
             break;
         }
-        in_record |= field.kind == talcfeather::END;
+        in_record |= field.kind == END;
     }
     walked
 }
@@ -39,18 +76,20 @@ fn walked(body: &[u8], uuid: Uuid) -> u64 {
 fn finds_each_record(opened: &Opened, listing: &Listing) {
     let mut numbers = Vec::new();
     for uuid in listing.keys() {
-        let uuid: Uuid = uuid.parse().unwrap();
-        let search = find(opened.body(), uuid).unwrap();
-        let theirs = peer::body::find(opened.body(), &uuid.0).unwrap();
-        assert_eq!([walked(opened.body(), uuid), theirs.visited], [search.visited; 2]);
+        let (text, uuid) = (uuid, unhex(uuid).try_into().unwrap());
+        let search = find(opened.body(), &uuid).unwrap();
+        let theirs = peer::body::find(opened.body(), &uuid).unwrap();
+        assert_eq!([walked(opened.body(), &uuid), theirs.visited], [search.visited; 2]);
+        assert_eq!(walked_on(opened.body(), text.parse().unwrap()), search.visited);
         let (found, theirs) = (search.found.expect("the record"), theirs.found.unwrap());
         assert_eq!((found.number, found.place), (theirs.record, theirs.place));
         numbers.push(found.number);
     }
     numbers.sort();
     assert_eq!(numbers, (0..opened.counts.records).collect::<Vec<_>>());
-    let none = find(opened.body(), Uuid::default()).unwrap();
-    assert!(none.found.is_none() && none.visited == walked(opened.body(), Uuid::default()));
+    let none = Search { found: None, visited: walked(opened.body(), &[0; 16]) };
+    assert_eq!(find(opened.body(), &[0; 16]), Ok(none));
+    assert_eq!(walked_on(opened.body(), Uuid::default()), none.visited);
 }
 
 fn check(saved: &Saved) {
@@ -65,6 +104,7 @@ fn check(saved: &Saved) {
     assert_eq!(work.compressions, first + u64::from(saved.iter) + 1);
     assert_eq!(work.blocks, 4 + (saved.file.len() as u64 - 200) / 16);
     assert_eq!(listing(opened.body()), saved.listing);
+    assert_eq!(listing_of_records(opened.body()), saved.listing);
     finds_each_record(&opened, &saved.listing);
 
     let parts = Parts::of(&saved.file, &opened).unwrap();

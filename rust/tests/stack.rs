@@ -18,6 +18,11 @@ use talcfeather::raw;
 
 /// By how much a bound may be over what was measured, in bytes.
 const SLACK: usize = 768;
+/// No bound is over this, in bytes.
+const MOST: usize = 16 * 1024;
+/// Or over this, where a body is judged: the table in which its UUIDs are looked up stands on the
+/// stack, whatever the body's length.
+const JUDGING: usize = 64 * 1024;
 
 fn used_by(call: &mut dyn FnMut()) -> usize {
     painted(call).used().len()
@@ -34,6 +39,8 @@ fn the_paint_tells() {
     assert!(used_by(&mut || {}) < 512);
     assert!((10_000..10_512).contains(&used_by(&mut takes::<10_000>)));
     assert!((70_000..70_512).contains(&used_by(&mut takes::<70_000>)));
+    assert!(used_by(&mut takes::<{ MOST + 1 }>) > MOST);
+    assert!(used_by(&mut takes::<{ JUDGING + 1 }>) > JUDGING);
 }
 
 /// A call, the bound that the header has for it, and the most that it has taken so far.
@@ -44,8 +51,10 @@ struct Uses {
 }
 
 impl Uses {
-    fn of(call: &'static str) -> Uses {
+    /// The header's bound is at most that.
+    fn of(call: &'static str, most: usize) -> Uses {
         let bound = header::macros()[&format!("TALC_{call}_STACK")] as usize;
+        assert!(bound <= most, "{call}: {bound} bytes");
         Uses { call, bound, most: 0 }
     }
 
@@ -137,9 +146,9 @@ fn doubled(body: &[u8]) -> Option<Vec<u8>> {
 
 /// Short and long, accepted and refused in each way.
 #[test]
-fn safes() {
+fn safes_at_most_64_kb() {
     let random = &mut Random(3);
-    let (mut read, mut write) = (Uses::of("READ"), Uses::of("WRITE"));
+    let (mut read, mut write) = (Uses::of("READ", JUDGING), Uses::of("WRITE", JUDGING));
     for body in bodies(random) {
         let mut file = vec![0; body.len() + 200];
         write_uses(&mut write, &body, &mut file[1..], 2048, 3);
@@ -151,25 +160,26 @@ fn safes() {
         let iv = core::array::from_fn(|i| wanted[i] ^ body[i]);
         write_with(&mut write, (SECRET, &iv), &body, &mut file, (2048, 10));
         write_uses(&mut write, &body, &mut file, 2048, 0);
+        read_uses(&mut read, &file, SECRET, 4096, 0);
         read_uses(&mut read, &file, SECRET, 2048, 0);
         read_uses(&mut read, &file, b"past", 2048, 8);
         read_uses(&mut read, &file, &[b'x'; 1025], 2048, 2);
         read_into(&mut read, &file, SECRET, vec![0; body.len() - 1], (2048, 3));
         read_uses(&mut read, &file, SECRET, 2047, 6);
-        read_uses(&mut read, &file[..100], SECRET, 2048, 1);
+        read_uses(&mut read, &file[..100], SECRET, 4096, 1);
         let marker = file.len() - 48;
         file[marker] ^= 1;
         read_uses(&mut read, &file, SECRET, 2048, 7);
         file[marker] ^= 1;
         file[160] ^= 1;
-        read_uses(&mut read, &file, SECRET, 2048, 9);
+        read_uses(&mut read, &file, SECRET, 4096, 9);
         file[36..40].fill(0);
         read_uses(&mut read, &file, SECRET, 2048, 5);
         file[0] ^= 1;
         read_uses(&mut read, &file, SECRET, 2048, 4);
         if let Some(doubled) = doubled(&body) {
             write_uses(&mut write, &doubled, &mut vec![0; doubled.len() + 200], 2048, 9);
-            read_uses(&mut read, &file_of(&doubled), SECRET, 2048, 9);
+            read_uses(&mut read, &file_of(&doubled), SECRET, 4096, 9);
         }
     }
     read.tight();
@@ -190,9 +200,9 @@ fn find_uses(uses: &mut Uses, body: &[u8], uuid: &Uuid, number: u32) {
 
 /// Accepted and refused: before any UUID is looked up, and by the last one.
 #[test]
-fn judging() {
+fn judging_at_most_64_kb() {
     let random = &mut Random(4);
-    let (mut judge, mut find) = (Uses::of("JUDGE"), Uses::of("FIND"));
+    let (mut judge, mut find) = (Uses::of("JUDGE", JUDGING), Uses::of("FIND", JUDGING));
     for body in bodies(random) {
         judge_uses(&mut judge, &body, 0);
         judge_uses(&mut judge, &body[..body.len() - 1], 9);
@@ -228,7 +238,7 @@ fn append_uses(uses: &mut Uses, place: usize, kind: u8, data: &[u8], fill: usize
 #[test]
 fn fields() {
     let random = &mut Random(5);
-    let (mut walk, mut append) = (Uses::of("WALK"), Uses::of("APPEND"));
+    let (mut walk, mut append) = (Uses::of("WALK", MOST), Uses::of("APPEND", MOST));
     let datas: [&[u8]; 6] = [b"", b"Lathe", b"4A5b6c7D", b"La\xffhe", &[7; 16], &[b'n'; 4000]];
     for data in datas {
         for kind in 0..0xff {
@@ -269,13 +279,13 @@ fn standing_uses(uses: &mut Uses, state: &[u8], uuid: &Uuid, number: u32) {
 
 /// Accepted and refused in each way, on fresh, full and damaged states.
 #[test]
-fn traces() {
+fn at_most_16_kb() {
     let random = &mut Random(1);
     let full: Vec<u8> = (0..4096).flat_map(|_| record(&random.array(), 5, CANCEL)).collect();
     let long: Vec<u8> = full.repeat(5);
     let more = [&full[..], &record(&[9; 16], 5, EDIT)].concat();
     let mut state = vec![0; 131_072];
-    let (mut replay, mut standing) = (Uses::of("REPLAY"), Uses::of("STANDING"));
+    let (mut replay, mut standing) = (Uses::of("REPLAY", MOST), Uses::of("STANDING", MOST));
     standing_uses(&mut standing, &state, &[9; 16], 0);
     replay_uses(&mut replay, &mut state, &[], 0);
     replay_uses(&mut replay, &mut state, &more, 16);
@@ -303,10 +313,10 @@ fn export_uses(uses: &mut Uses, body: &[u8], output: &mut [u8], number: u32) {
 
 /// Accepted and refused in each way, short and long.
 #[test]
-fn exports() {
+fn exports_at_most_64_kb() {
     let random = &mut Random(2);
     let mut output = vec![0; 14_000 * 256];
-    let mut uses = Uses::of("EXPORT");
+    let mut uses = Uses::of("EXPORT", JUDGING);
     for body in bodies(random) {
         export_uses(&mut uses, &body, &mut output, 0);
         if let Some(doubled) = doubled(&body) {
@@ -344,12 +354,13 @@ fn import_uses(import: &mut Uses, row: &mut Uses, table: &[u8], number: u32, las
 
 /// Tables of 3,000 full rows, of none, cut, and with a pad that is not zero.
 #[test]
-fn tables() {
+fn tables_at_most_16_kb() {
     let full = stored(&[7; 16], [&[b't'; 80], &[b'u'; 80], &[b'g'; 72]], -1);
     let mut table = full.repeat(3000);
-    let (mut import, mut row) = (Uses::of("IMPORT"), Uses::of("ROW"));
+    let (mut import, mut row) = (Uses::of("IMPORT", MOST), Uses::of("ROW", MOST));
     import_uses(&mut import, &mut row, &[], 0, 0);
     import_uses(&mut import, &mut row, &table, 0, 0);
+    import_uses(&mut import, &mut row, &table[..767_999], 18, 0);
     import_uses(&mut import, &mut row, &table[..1023], 18, 18);
     table[1023] = 1;
     import_uses(&mut import, &mut row, &table, 18, 18);
@@ -359,7 +370,7 @@ fn tables() {
 
 #[test]
 fn the_version() {
-    let mut uses = Uses::of("VERSION");
-    uses.run(6, &mut || unsafe { raw::talc_version() });
+    let mut uses = Uses::of("VERSION", MOST);
+    uses.run(5, &mut || unsafe { raw::talc_version() });
     uses.tight();
 }

@@ -10,7 +10,7 @@ use common::walks::{answer, told};
 use peer::fields::fill_needed;
 use peer::random::Random;
 use peer::safe::Parts;
-use talcfeather::{fields, Uuid, Value};
+use talcfeather::{fields, walk, Cursor, Uuid, Value};
 
 /// The times of the last save and of the last change of the master passphrase.
 const STAMPS: [u8; 2] = [0x04, 0x13];
@@ -303,7 +303,13 @@ fn read(random: &mut Random, body: &[u8]) -> Outcome {
 }
 
 fn values(body: &[u8]) -> Vec<Value<'_>> {
-    fields(body).map(|field| field.unwrap().value).collect()
+    let (mut at, mut values) = (Cursor::START, Vec::new());
+    while let Some((field, next)) = walk(body, at).unwrap() {
+        values.push(field.value);
+        at = next;
+    }
+    assert!(fields(body).map(|field| field.unwrap().value).eq(values.iter().copied()));
+    values
 }
 
 #[test]

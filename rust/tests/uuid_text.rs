@@ -57,7 +57,10 @@ fn printed() {
 #[test]
 fn bytes() {
     assert_eq!(Uuid::from(<[u8; 16]>::from(COUNTED)), COUNTED);
+    assert_eq!(Uuid::from(&COUNTED.0), COUNTED);
     assert_eq!(COUNTED.as_ref(), COUNTED.0);
+    assert!(COUNTED == COUNTED.0 && COUNTED.0 == COUNTED);
+    assert!(COUNTED != [0; 16] && [0; 16] != COUNTED);
     let mut low = COUNTED;
     low.0[15] = 0;
     let ordered = BTreeSet::from([COUNTED, low, Uuid::default(), COUNTED]);

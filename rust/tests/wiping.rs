@@ -120,6 +120,13 @@ fn fresh_parts() {
     assert!(fresh.clone() == fresh && fresh.iter == 9);
 }
 
+#[test]
+fn wiped() {
+    let mut secret = b"floor 2".to_vec();
+    wipe(&mut secret);
+    assert_eq!(secret, [0; 7]);
+}
+
 /// Every length at every alignment, and nothing beside it.
 #[test]
 fn every_length() {

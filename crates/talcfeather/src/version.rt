@@ -6,5 +6,5 @@ ghost use Rattle.talcfeather.specs.Version.{version};
 pub extern "C" fn talc_version() -> u32
     ensures { result ≡ version }
 {
-    6
+    5
 }
