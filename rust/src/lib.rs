@@ -99,8 +99,8 @@
 //! # What is wiped
 //!
 //! - the keys of [`Opened`] and of [`Parts`], and the whole workspace, when these are dropped;
-//! - the stack that reading and writing took, when [`read`], [`read_counted`] or [`write`] returns,
-//!   accepted or refused: [`STACK`] bytes of it.
+//! - the stack that reading and writing took, when [`read`], [`read_counted`] or
+//!   [`write`](write()) returns, accepted or refused: [`STACK`] bytes of it.
 //!
 //! Not wiped: what is the caller's own, such as the passphrase, the buffer of a [`Builder`], a copy of a
 //! field; copies that a move of [`Opened`] or [`Parts`] may leave behind, so keep them where they were
@@ -109,8 +109,8 @@
 //!
 //! # Stack
 //!
-//! [`judge`], [`find`] and [`export`] take some 54,600 bytes of stack, [`read`] and [`write`] take
-//! [`STACK`] and some. A thread that calls them needs as much.
+//! [`judge`], [`find`] and [`export`] take some 54,600 bytes of stack, [`read`] and
+//! [`write`](write()) take [`STACK`] and some. A thread that calls them needs as much.
 //!
 //! # The archive
 //!
