@@ -99,13 +99,8 @@
 //! # What is wiped
 //!
 //! - the keys of [`Opened`] and of [`Parts`], and the whole workspace, when these are dropped;
-<<<<<<< HEAD
-//! - the stack that reading and writing took, when [`read`], [`read_counted`] or [`write`](write()) returns,
-//!   accepted or refused: [`STACK`] bytes of it.
-=======
 //! - the stack that reading and writing took, when [`read`], [`read_counted`] or
 //!   [`write`](write()) returns, accepted or refused: [`STACK`] bytes of it.
->>>>>>> 45e0f0210281254935a77caea62bed75874010f8
 //!
 //! Not wiped: what is the caller's own, such as the passphrase, the buffer of a [`Builder`], a copy of a
 //! field; copies that a move of [`Opened`] or [`Parts`] may leave behind, so keep them where they were
@@ -114,13 +109,8 @@
 //!
 //! # Stack
 //!
-<<<<<<< HEAD
-//! [`judge`], [`find`] and [`export`] take some 54,600 bytes of stack, [`read`] and [`write`](write()) take
-//! [`STACK`] and some. A thread that calls them needs as much.
-=======
 //! [`judge`], [`find`] and [`export`] take some 54,600 bytes of stack, [`read`] and
 //! [`write`](write()) take [`STACK`] and some. A thread that calls them needs as much.
->>>>>>> 45e0f0210281254935a77caea62bed75874010f8
 //!
 //! # The archive
 //!
