@@ -71,6 +71,10 @@ impl Terminal {
             command.pre_exec(move || {
                 setsid();
                 ioctl(fd, SET_CONTROLLING, 0);
+                // Who started the test may ignore these, as a shell does behind `&`.
+                for number in [1, 2, 3, 15, 20] {
+                    signal(number, 0);
+                }
                 // A prompt that never ends is killed, and so fails.
                 alarm(60);
                 Ok(())
