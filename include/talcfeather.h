@@ -357,14 +357,14 @@ static inline const char *talc_refusal_advice(uint32_t number)
 
 /* Stack that a call takes at most, in bytes: see "Stack", above. */
 #define TALC_READ_STACK          54784u
-#define TALC_WRITE_STACK         54784u
-#define TALC_JUDGE_STACK         54272u
-#define TALC_FIND_STACK          54272u
+#define TALC_WRITE_STACK         54272u
+#define TALC_JUDGE_STACK         53760u
+#define TALC_FIND_STACK          53760u
 #define TALC_WALK_STACK            512u
 #define TALC_APPEND_STACK          512u
 #define TALC_REPLAY_STACK          512u
 #define TALC_STANDING_STACK        512u
-#define TALC_EXPORT_STACK        55296u
+#define TALC_EXPORT_STACK        54784u
 #define TALC_IMPORT_STACK          512u
 #define TALC_ROW_STACK             512u
 #define TALC_VERSION_STACK         512u

@@ -1,4 +1,5 @@
 -- Small bodies on each side of document 01's clauses: of one the description is written out; the others by the decision, which is computed. And find, and what the HMAC covers.
+use Rattle.std.proofs.Common.{Option, Some, None, Result, Ok, Err}
 use Prim.Native.Nat.{ℕ}
 use mathlib.Core.Path.{◌≡◌, refl, sym, ap, ◌∙◌}
 use mathlib.Core.Bool.{Bool, true, false, false≢true}
@@ -15,11 +16,11 @@ use Rattle.fields.specs.Stored.{Stored, stored, fill_of}
 use Rattle.body.specs.Division.{Whole, joined}
 use Rattle.body.specs.Sections.{runs, first_data}
 use Rattle.body.specs.WellFormed.{WellFormed}
-use Rattle.body.specs.Decision.{divided, walkable, good_header, good_record, good_runs, formed, distinct, is_well_formed, covered_of, judged_of}
-use Rattle.body.specs.Find.{is_uuid, first_with, visited_in, find_of}
-use Rattle.body.specs.declared.Judged.{Judged}
-use Rattle.body.specs.declared.Judged.TheVariants.{Counts, NotWellFormed}
-use Rattle.body.specs.declared.Sought.{Sought}
+use Rattle.body.specs.Decision.{divided, walkable, good_header, good_record, good_runs, formed, distinct, is_well_formed, covered_of, with_counts, not_well_formed, judged_of}
+use Rattle.body.specs.Find.{at_place, is_uuid, first_with, visited_in, find_of}
+use Rattle.body.specs.declared.Counts.{Counts}
+use Rattle.body.specs.declared.NotWellFormed.{NotWellFormed}
+use Rattle.body.specs.declared.Place.{Place}
 use Rattle.body.specs.declared.Found.{Found}
 use Rattle.body.proofs.Decided.{decides}
 
@@ -86,22 +87,22 @@ abbrev uuid : ℕ → Stored
 uuid b = field 0x01 (b ∷ replicate 15 0x00)
 
 -- (the body, the answer by document 01)
-abbrev pub bodies : List (List ℕ × Judged)
+abbrev pub bodies : List (List ℕ × Result Counts NotWellFormed)
 bodies =
-    (least, Counts 1 0)
+    (least, with_counts 1 0)
     -- the first byte of Version may be any
-    ∷ (joined (field 0x00 (0xff ∷ 0x03 ∷ []) ∷ end ∷ []), Counts 1 0)
+    ∷ (joined (field 0x00 (0xff ∷ 0x03 ∷ []) ∷ end ∷ []), with_counts 1 0)
     -- Empty Groups (11) and all other types may repeat; unknown types and unexpected lengths are kept
-    ∷ (joined (version ∷ field 0x11 (0x41 ∷ []) ∷ field 0x11 (0x42 ∷ []) ∷ end ∷ []), Counts 3 0)
-    ∷ (joined (version ∷ field 0x0c [] ∷ field 0x0c [] ∷ field 0x12 [] ∷ field 0x12 [] ∷ field 0xfe [] ∷ field 0xfe [] ∷ end ∷ []), Counts 7 0)
-    ∷ (joined (version ∷ field 0x01 (0x01 ∷ []) ∷ field 0x04 (replicate 8 0x31) ∷ end ∷ []), Counts 3 0)
+    ∷ (joined (version ∷ field 0x11 (0x41 ∷ []) ∷ field 0x11 (0x42 ∷ []) ∷ end ∷ []), with_counts 3 0)
+    ∷ (joined (version ∷ field 0x0c [] ∷ field 0x0c [] ∷ field 0x12 [] ∷ field 0x12 [] ∷ field 0xfe [] ∷ field 0xfe [] ∷ end ∷ []), with_counts 7 0)
+    ∷ (joined (version ∷ field 0x01 (0x01 ∷ []) ∷ field 0x04 (replicate 8 0x31) ∷ end ∷ []), with_counts 3 0)
     -- records, in any order of fields
-    ∷ (joined (version ∷ end ∷ uuid 0x01 ∷ title ∷ password ∷ end ∷ []), Counts 1 1)
-    ∷ (joined (version ∷ end ∷ field 0x00 [] ∷ password ∷ field 0x02 [] ∷ title ∷ field 0x02 [] ∷ uuid 0x01 ∷ field 0x15 (0x01 ∷ 0x02 ∷ []) ∷ end ∷ []), Counts 1 1)
+    ∷ (joined (version ∷ end ∷ uuid 0x01 ∷ title ∷ password ∷ end ∷ []), with_counts 1 1)
+    ∷ (joined (version ∷ end ∷ field 0x00 [] ∷ password ∷ field 0x02 [] ∷ title ∷ field 0x02 [] ∷ uuid 0x01 ∷ field 0x15 (0x01 ∷ 0x02 ∷ []) ∷ end ∷ []), with_counts 1 1)
     -- UUIDs that differ in their first byte only; in their last; the header's is no record's
-    ∷ (joined (version ∷ end ∷ uuid 0x01 ∷ title ∷ password ∷ end ∷ uuid 0x02 ∷ title ∷ password ∷ end ∷ []), Counts 1 2)
-    ∷ (joined (version ∷ end ∷ field 0x01 (replicate 16 0x00) ∷ title ∷ password ∷ end ∷ title ∷ password ∷ field 0x01 (replicate 15 0x00 ++ (0x01 ∷ [])) ∷ end ∷ []), Counts 1 2)
-    ∷ (joined (version ∷ uuid 0x01 ∷ end ∷ uuid 0x01 ∷ title ∷ password ∷ end ∷ []), Counts 2 1)
+    ∷ (joined (version ∷ end ∷ uuid 0x01 ∷ title ∷ password ∷ end ∷ uuid 0x02 ∷ title ∷ password ∷ end ∷ []), with_counts 1 2)
+    ∷ (joined (version ∷ end ∷ field 0x01 (replicate 16 0x00) ∷ title ∷ password ∷ end ∷ title ∷ password ∷ field 0x01 (replicate 15 0x00 ++ (0x01 ∷ [])) ∷ end ∷ []), with_counts 1 2)
+    ∷ (joined (version ∷ uuid 0x01 ∷ end ∷ uuid 0x01 ∷ title ∷ password ∷ end ∷ []), with_counts 2 1)
     ∷ []
 
 -- bodies that are not well formed
@@ -151,22 +152,22 @@ abbrev three : List ℕ
 three =
     joined (version ∷ uuid 0x03 ∷ end ∷ title ∷ uuid 0x01 ∷ password ∷ end ∷ uuid 0x02 ∷ title ∷ password ∷ end ∷ uuid 0x04 ∷ title ∷ password ∷ end ∷ [])
 
-abbrev found : Sought → ℕ → Found
+abbrev found : Result (Option Place) NotWellFormed → ℕ → Found
 found x v = record { sought = x; visited = v }
 
 -- what is found, and how many fields are visited: up to the UUID, which is the first, a middle or the last field of its record; up to the last END; none of a body that is not well formed, where the fault is
 -- behind the UUID, or that the UUID is there twice
 abbrev pub finds : List (Found × Found)
 finds =
-    (find_of three 0x02 0, found (Sought.At 1 144) 8)
-    ∷ (find_of three 0x01 0, found (Sought.At 0 64) 5)
-    ∷ (find_of three 0x03 0, found Sought.Nowhere 15)
-    ∷ (find_of (joined (version ∷ end ∷ title ∷ password ∷ uuid 0x01 ∷ end ∷ [])) 0x01 0, found (Sought.At 0 32) 5)
-    ∷ (find_of least 0x01 0, found Sought.Nowhere 2)
-    ∷ (find_of (least ++ least) 0x01 0, found Sought.NotWellFormed 0)
-    ∷ (find_of (joined (version ∷ end ∷ uuid 0x01 ∷ title ∷ password ∷ end ∷ end ∷ [])) 0x01 0, found Sought.NotWellFormed 0)
-    ∷ (find_of (joined (version ∷ end ∷ uuid 0x01 ∷ title ∷ password ∷ end ∷ uuid 0x01 ∷ title ∷ password ∷ end ∷ [])) 0x01 0, found Sought.NotWellFormed 0)
-    ∷ (find_of (joined (version ∷ uuid 0x01 ∷ end ∷ uuid 0x01 ∷ title ∷ password ∷ end ∷ [])) 0x01 0, found (Sought.At 0 64) 4)
+    (find_of three 0x02 0, found (Ok (Some (at_place 1 144))) 8)
+    ∷ (find_of three 0x01 0, found (Ok (Some (at_place 0 64))) 5)
+    ∷ (find_of three 0x03 0, found (Ok None) 15)
+    ∷ (find_of (joined (version ∷ end ∷ title ∷ password ∷ uuid 0x01 ∷ end ∷ [])) 0x01 0, found (Ok (Some (at_place 0 32))) 5)
+    ∷ (find_of least 0x01 0, found (Ok None) 2)
+    ∷ (find_of (least ++ least) 0x01 0, found (Err not_well_formed) 0)
+    ∷ (find_of (joined (version ∷ end ∷ uuid 0x01 ∷ title ∷ password ∷ end ∷ end ∷ [])) 0x01 0, found (Err not_well_formed) 0)
+    ∷ (find_of (joined (version ∷ end ∷ uuid 0x01 ∷ title ∷ password ∷ end ∷ uuid 0x01 ∷ title ∷ password ∷ end ∷ [])) 0x01 0, found (Err not_well_formed) 0)
+    ∷ (find_of (joined (version ∷ uuid 0x01 ∷ end ∷ uuid 0x01 ∷ title ∷ password ∷ end ∷ [])) 0x01 0, found (Ok (Some (at_place 0 64))) 4)
     ∷ []
 
 -- the data bytes of all fields in order
@@ -177,7 +178,7 @@ covers =
     ∷ []
 
 pub cases : (map (λ c. judged_of c.0) bodies ≡ map (λ c. c.1) bodies)
-    × (map judged_of others ≡ map (λ s. NotWellFormed) others)
+    × (map judged_of others ≡ map (λ s. Err not_well_formed) others)
     × (map (λ c. c.0) finds ≡ map (λ c. c.1) finds)
     × (map (λ c. c.0) covers ≡ map (λ c. c.1) covers)
 unfolding number_low bytes_low runs first_data divided walkable good_header good_record good_runs same distinct formed is_well_formed judged_of is_uuid first_with visited_in find_of

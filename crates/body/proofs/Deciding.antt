@@ -1,4 +1,5 @@
 -- The field that decides a search, of any fields: the search ends at the first match, or at the last field where there is none, and the fields visited are those up to it; by recursion on the fields.
+use Rattle.std.proofs.Common.{Option, Some, None, Result, Ok}
 use Prim.Native.Nat.{ℕ, ◌+◌}
 use mathlib.Core.Path.{◌≡◌, refl, sym, ap, ◌∙◌}
 use mathlib.Core.Bool.{Bool, true, false, cond, ◌||◌, or-false, or_assoc, false≢true}
@@ -8,10 +9,10 @@ use native.Mathlib.Omega.{arith}
 use lib.ListN.{length}
 use Rattle.fields.specs.Stored.{Stored, room_of}
 use Rattle.body.specs.Sections.{is_end, count}
-use Rattle.body.specs.Find.{is_match, visited_in}
+use Rattle.body.specs.Find.{at_place, is_match, visited_in}
 use Rattle.body.specs.Search.{visit_of, searched}
-use Rattle.body.specs.declared.Sought.{Sought}
-use Rattle.body.specs.declared.Sought.TheVariants.{At, Nowhere}
+use Rattle.body.specs.declared.NotWellFormed.{NotWellFormed}
+use Rattle.body.specs.declared.Place.{Place}
 use Rattle.body.specs.declared.Found.{Found}
 use Rattle.body.specs.declared.search.Progress.{Progress}
 
@@ -63,19 +64,19 @@ module _ (a b : ℕ) where
   same_search x r q [] f behind behind' m = rw (at_once r f ∙ m)
   same_search x r q (g ∷ before) f behind behind' m =
       let n = q + room_of (length g.content) in
-      ap (cond (is_match a b r g.kind g.content) (record { sought = At x.number x.place; visited = x.visited + 1 }))
+      ap (cond (is_match a b r g.kind g.content) (record { sought = Ok (Some x.at); visited = x.visited + 1 }))
       (same_search (visit_of x r g.kind n) (r || is_end g) n before f behind behind' (later r g before f ∙ m))
 
   -- ---- where the search ends
   -- The answer and the field that decides it: a match in the record of that number, or else the last of all.
-  pub record Ends (x : Progress) (r : Bool) (fs : List Stored) (y : Sought) : Type 0 where
+  pub record Ends (x : Progress) (r : Bool) (fs : List Stored) (y : Result (Option Place) NotWellFormed) : Type 0 where
     pub before : List Stored
     pub deciding : Stored
     pub behind : List Stored
     pub parts : fs ≡ before ++ (deciding ∷ behind)
     pub none : Unmatched r before
-    pub found : (n p : ℕ) → y ≡ At n p → (matches r before deciding ≡ true) × (n + cond r 0 1 ≡ x.number + count 0xff before)
-    pub nowhere : y ≡ Nowhere → behind ≡ []
+    pub found : (n p : ℕ) → y ≡ Ok (Some (at_place n p)) → (matches r before deciding ≡ true) × (n + cond r 0 1 ≡ x.at.number + count 0xff before)
+    pub nowhere : y ≡ Ok None → behind ≡ []
 
   no_part : (u : List Stored) (f : Stored) (v : List Stored) → [] ≡ u ++ (f ∷ v) → ⊥
   no_part [] f v e = omega (arith, ap length e)
@@ -86,7 +87,7 @@ module _ (a b : ℕ) where
   in_record false k d h = absurd (false≢true h)
 
   module _ (x : Progress) (r : Bool) (f : Stored) where
-    found_here : (fs : List Stored) → is_match a b r f.kind f.content ≡ true → Ends x r (f ∷ fs) (At x.number x.place)
+    found_here : (fs : List Stored) → is_match a b r f.kind f.content ≡ true → Ends x r (f ∷ fs) (Ok (Some x.at))
     found_here fs m =
         record {
           before = [];
@@ -94,11 +95,11 @@ module _ (a b : ℕ) where
           behind = fs;
           parts = refl;
           none = λ u g v e. absurd (no_part u g v e);
-          found = λ n p e. (sym (at_once r f) ∙ m, (let i : x.number ≡ n = cc in rw (in_record r f.kind f.content m) (omega arith)));
-          nowhere = λ e. absurd (let z : ◌≡◌ {A = ℕ} 0 1 = cc in omega arith);
+          found = λ n p e. (sym (at_once r f) ∙ m, (let z : x.at ≡ at_place n p = cc in let i : x.at.number ≡ n = ap (λ (y : Place). y.number) z in rw (in_record r f.kind f.content m) (omega arith)));
+          nowhere = λ e. absurd (cc);
         }
 
-    last_here : Ends x r (f ∷ []) Nowhere
+    last_here : Ends x r (f ∷ []) (Ok None)
     last_here =
         record {
           before = [];
@@ -106,12 +107,12 @@ module _ (a b : ℕ) where
           behind = [];
           parts = refl;
           none = λ u g v e. absurd (no_part u g v e);
-          found = λ n p e. absurd (let z : ◌≡◌ {A = ℕ} 0 1 = cc in omega arith);
+          found = λ n p e. absurd (cc);
           nowhere = λ e. refl;
         }
 
     -- one field more before
-    further : (q : ℕ) (fs : List Stored) (y : Sought) → is_match a b r f.kind f.content ≡ false → Ends (visit_of x r f.kind q) (r || is_end f) fs y → Ends x r (f ∷ fs) y
+    further : (q : ℕ) (fs : List Stored) (y : Result (Option Place) NotWellFormed) → is_match a b r f.kind f.content ≡ false → Ends (visit_of x r f.kind q) (r || is_end f) fs y → Ends x r (f ∷ fs) y
     further q fs y m t =
         record {
           before = f ∷ t.before;
@@ -131,8 +132,8 @@ module _ (a b : ℕ) where
             rw (← i) (sym (later r f u g) ∙ t.none u g v j)
 
         number : (o e : Bool) (n : ℕ)
-            → n + cond (o || e) 0 1 ≡ x.number + cond e (cond o 1 0) 0 + count 0xff t.before
-            → n + cond o 0 1 ≡ x.number + (cond e 1 0 + count 0xff t.before)
+            → n + cond (o || e) 0 1 ≡ x.at.number + cond e (cond o 1 0) 0 + count 0xff t.before
+            → n + cond o 0 1 ≡ x.at.number + (cond e 1 0 + count 0xff t.before)
         number true true n h = omega arith
         number true false n h = omega arith
         number false true n h = omega arith
@@ -142,7 +143,7 @@ module _ (a b : ℕ) where
   unfolding searched
   ends x r q f [] = by (is_match a b r f.kind f.content) refl
     where
-      by : (m : Bool) → is_match a b r f.kind f.content ≡ m → Ends x r (f ∷ []) (cond {A = Found} m (record { sought = At x.number x.place; visited = x.visited + 1 }) (record { sought = Nowhere; visited = x.visited + 1 })).sought
+      by : (m : Bool) → is_match a b r f.kind f.content ≡ m → Ends x r (f ∷ []) (cond {A = Found} m (record { sought = Ok (Some x.at); visited = x.visited + 1 }) (record { sought = Ok None; visited = x.visited + 1 })).sought
       by true e = found_here x r f [] e
       by false e = last_here x r f
   ends x r q f (g ∷ fs) =
@@ -150,6 +151,6 @@ module _ (a b : ℕ) where
       by n (is_match a b r f.kind f.content) refl _ (ends (visit_of x r f.kind n) (r || is_end f) n g fs)
     where
       by : (n : ℕ) (m : Bool) → is_match a b r f.kind f.content ≡ m → (y : Found) → Ends (visit_of x r f.kind n) (r || is_end f) (g ∷ fs) y.sought
-          → Ends x r (f ∷ g ∷ fs) (cond m (record { sought = At x.number x.place; visited = x.visited + 1 }) y).sought
+          → Ends x r (f ∷ g ∷ fs) (cond m (record { sought = Ok (Some x.at); visited = x.visited + 1 }) y).sought
       by n true e y t = found_here x r f (g ∷ fs) e
       by n false e y t = further x r f n (g ∷ fs) y.sought e t

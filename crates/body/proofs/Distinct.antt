@@ -6,14 +6,14 @@ use mathlib.Core.Bool.{Bool, true, false, not, false≢true}
 use mathlib.Core.List.{List, [], ◌∷◌, map}
 use native.Mathlib.Omega.{arith}
 use lib.ListN.{length, get_or, length-map}
+use Rattle.std.proofs.Common.{Option, Some, None, is_none}
+use Rattle.std.proofs.lemmas.List.{get_or-map}
 use Rattle.words.specs.Each.{all_in}
 use Rattle.words.specs.Slices.{same}
 use Rattle.words.proofs.EachLaws.{both, and, each, each_at, each_from}
 use Rattle.words.proofs.Either.{same_false, differ}
 use Rattle.fields.specs.Stored.{Stored}
 use Rattle.uuids.specs.Uuids.{Apart, Repeats}
-use Rattle.uuids.specs.declared.Repeat.{Repeat}
-use Rattle.uuids.specs.declared.Repeat.TheVariants.{At, Nothing}
 use Rattle.body.specs.WellFormed.{uuid_of}
 use Rattle.body.specs.Decision.{distinct}
 
@@ -42,30 +42,21 @@ distinct_apart (u ∷ us) d (suc i) (suc j) l g e =
     distinct_apart us (both (all_in (λ v. not (same u v)) us) (distinct us) d).1 i j (omega arith) (omega arith) e
 
 -- of the records
-uuids_at : (rs : List (List Stored)) (k : ℕ) → k < length rs → get_or (map uuid_of rs) k [] ≡ uuid_of (get_or rs k [])
-uuids_at [] k l = absurd (omega arith)
-uuids_at (r ∷ rs) zero l = refl
-uuids_at (r ∷ rs) (suc k) l = uuids_at rs k (omega arith)
-
 pub uuids_differ : (rs : List (List Stored))
     → (distinct (map uuid_of rs) ≡ true) ↔ ((i j : ℕ) → i < j → j < length rs → uuid_of (get_or rs i []) ≡ uuid_of (get_or rs j []) → ⊥)
 uuids_differ rs = (
   λ d i j h l e.
-      distinct_apart (map uuid_of rs) d j i (omega (arith, length-map rs uuid_of)) h (uuids_at rs i (omega arith) ∙ e ∙ sym (uuids_at rs j l)),
+      distinct_apart (map uuid_of rs) d j i (omega (arith, length-map rs uuid_of)) h (get_or-map uuid_of rs i [] [] (omega arith) ∙ e ∙ sym (get_or-map uuid_of rs j [] [] l)),
   λ f. apart_distinct (map uuid_of rs) (λ i j l h e.
       let k : i < length rs = omega (arith, length-map rs uuid_of) in
-      f j i h k (sym (uuids_at rs j (omega arith)) ∙ e ∙ uuids_at rs i k)),
+      f j i h k (sym (get_or-map uuid_of rs j [] [] (omega arith)) ∙ e ∙ get_or-map uuid_of rs i [] [] k)),
 )
 
 -- what the search says
-abbrev pub is_nothing : Repeat → Bool
-is_nothing (At i) = false
-is_nothing Nothing = true
-
-pub told : (us : List (List ℕ)) (r : Repeat) → Repeats us r → is_nothing r ≡ distinct us
-told us (At i) x = by (distinct us) refl
+pub told : (us : List (List ℕ)) (r : Option ℕ) → Repeats us r → is_none r ≡ distinct us
+told us (Some i) x = by (distinct us) refl
   where
     by : (b : Bool) → distinct us ≡ b → false ≡ b
     by true e = absurd (distinct_apart us e i x.1.0 x.0 x.1.1 x.1.2)
     by false e = refl
-told us Nothing x = sym (apart_distinct us x)
+told us None x = sym (apart_distinct us x)

@@ -1,5 +1,6 @@
 -- What the answer of a call of `find` says of the 16 bytes that are sought: the search over the records stops at the first that has them, by recursion on the records; and where the
 -- sections before a record are passed, the walk stands at its first field.
+use Rattle.std.proofs.Common.{Option, Some, None, Result, Ok, Err}
 use Prim.Native.Nat.{ℕ, ◌+◌, ◌<◌}
 use mathlib.Core.Path.{◌≡◌, refl, sym, ap, subst, ◌∙◌}
 use mathlib.Core.Bool.{Bool, true, false, cond, false≢true}
@@ -19,17 +20,16 @@ use Rattle.fields.specs.Value.{value_of}
 use Rattle.fields.specs.Step.{len_at, kind_at, data_at, after}
 use Rattle.fields.specs.Walk.{field_by, walk_of}
 use Rattle.fields.specs.declared.Field.{Field}
-use Rattle.fields.specs.declared.Walked.TheVariants.{Took}
 use Rattle.fields.proofs.Valued.{valued}
 use Rattle.fields.proofs.Back.{shown}
 use Rattle.body.specs.Division.{Whole, joined}
 use Rattle.body.specs.Sections.{is_end, push, runs, count, first_data}
 use Rattle.body.specs.WellFormed.{GoodRecord, uuid_of, WellFormed}
-use Rattle.body.specs.Decision.{taken_from, is_well_formed}
+use Rattle.body.specs.Decision.{taken_from, is_well_formed, not_well_formed}
 use Rattle.body.specs.RecordAt.{before_end}
-use Rattle.body.specs.Find.{has, first_with, find_of, place_behind, HasUuid, FoundAt, Says}
-use Rattle.body.specs.declared.Sought.{Sought}
-use Rattle.body.specs.declared.Sought.TheVariants.{At, Nowhere, NotWellFormed}
+use Rattle.body.specs.Find.{at_place, has, first_with, find_of, place_behind, HasUuid, FoundAt, Says}
+use Rattle.body.specs.declared.NotWellFormed.{NotWellFormed}
+use Rattle.body.specs.declared.Place.{Place}
 use Rattle.body.specs.declared.Found.{Found}
 use Rattle.body.proofs.Decided.{well_formed, decides, header_is, records_are}
 use Rattle.body.proofs.Answers.{find_is}
@@ -48,16 +48,17 @@ record First (a b n p : ℕ) (rs : List (List Stored)) (m q : ℕ) : Type 0 wher
   it : has a b found ≡ true
 
 module _ (a b : ℕ) where
-  first_at : (n p : ℕ) (rs : List (List Stored)) (m q : ℕ) → first_with a b n p rs ≡ At m q → First a b n p rs m q
+  first_at : (n p : ℕ) (rs : List (List Stored)) (m q : ℕ) → first_with a b n p rs ≡ Some (at_place m q) → First a b n p rs m q
   unfolding first_with
-  first_at n p [] m q e = absurd (let z : ◌≡◌ {A = ℕ} 0 1 = cc in omega arith)
+  first_at n p [] m q e = absurd (cc)
   first_at n p (r ∷ rs) m q e = by (has a b r) refl e (first_at (n + 1) (p + length (joined r) + 16) rs m q)
     where
-      by : (t : Bool) → has a b r ≡ t → cond t (At n p) (first_with a b (n + 1) (p + length (joined r) + 16) rs) ≡ At m q
-          → (first_with a b (n + 1) (p + length (joined r) + 16) rs ≡ At m q → First a b (n + 1) (p + length (joined r) + 16) rs m q) → First a b n p (r ∷ rs) m q
+      by : (t : Bool) → has a b r ≡ t → cond t (Some (at_place n p)) (first_with a b (n + 1) (p + length (joined r) + 16) rs) ≡ Some (at_place m q)
+          → (first_with a b (n + 1) (p + length (joined r) + 16) rs ≡ Some (at_place m q) → First a b (n + 1) (p + length (joined r) + 16) rs m q) → First a b n p (r ∷ rs) m q
       by true h e ih =
-          let i : m ≡ n = cc in
-          let j : q ≡ p = cc in
+          let z : at_place n p ≡ at_place m q = cc in
+          let i : m ≡ n = ap (λ (x : Place). x.number) (sym z) in
+          let j : q ≡ p = ap (λ (x : Place). x.place) (sym z) in
           record { before = []; found = r; others = rs; parts = refl; number = omega arith; place = omega arith; it = h }
       by false h e ih =
           let x = ih e in
@@ -71,25 +72,15 @@ module _ (a b : ℕ) where
             it = x.it;
           }
 
-  first_none : (n p : ℕ) (rs : List (List Stored)) → first_with a b n p rs ≡ Nowhere → Each (λ r. has a b r ≡ false) rs
+  first_none : (n p : ℕ) (rs : List (List Stored)) → first_with a b n p rs ≡ None → Each (λ r. has a b r ≡ false) rs
   unfolding first_with
   first_none n p [] e = tt
   first_none n p (r ∷ rs) e = by (has a b r) refl e (first_none (n + 1) (p + length (joined r) + 16) rs)
     where
-      by : (t : Bool) → has a b r ≡ t → cond t (At n p) (first_with a b (n + 1) (p + length (joined r) + 16) rs) ≡ Nowhere
-          → (first_with a b (n + 1) (p + length (joined r) + 16) rs ≡ Nowhere → Each (λ r. has a b r ≡ false) rs) → Each (λ r. has a b r ≡ false) (r ∷ rs)
-      by true h e ih = absurd (let z : ◌≡◌ {A = ℕ} 0 1 = cc in omega arith)
+      by : (t : Bool) → has a b r ≡ t → cond t (Some (at_place n p)) (first_with a b (n + 1) (p + length (joined r) + 16) rs) ≡ None
+          → (first_with a b (n + 1) (p + length (joined r) + 16) rs ≡ None → Each (λ r. has a b r ≡ false) rs) → Each (λ r. has a b r ≡ false) (r ∷ rs)
+      by true h e ih = absurd (cc)
       by false h e ih = (h, ih e)
-
-  first_formed : (n p : ℕ) (rs : List (List Stored)) → first_with a b n p rs ≡ NotWellFormed → ⊥
-  unfolding first_with
-  first_formed n p [] e = let z : ◌≡◌ {A = ℕ} 0 1 = cc in omega arith
-  first_formed n p (r ∷ rs) e = by (has a b r) e (first_formed (n + 1) (p + length (joined r) + 16) rs)
-    where
-      by : (t : Bool) → cond t (At n p) (first_with a b (n + 1) (p + length (joined r) + 16) rs) ≡ NotWellFormed
-          → (first_with a b (n + 1) (p + length (joined r) + 16) rs ≡ NotWellFormed → ⊥) → ⊥
-      by true e ih = let z : ◌≡◌ {A = ℕ} 0 1 = cc in omega arith
-      by false e ih = ih e
 
 none_has : (uuid : List ℕ) → Sized 16 uuid → (rs : List (List Stored)) → Each (λ r. has (number_low (take 8 uuid)) (number_low (take 8 (drop 8 uuid))) r ≡ false) rs
     → Each (λ r. HasUuid uuid r → ⊥) rs
@@ -135,7 +126,7 @@ pub record FirstField (s : List ℕ) (p : ℕ) (u : List Stored) : Type 0 where
   field : Stored
   rest : List Stored
   fields : u ≡ field ∷ rest
-  taken : walk_of s (inside p) ≡ Took (shown value_of true p field) (after s (inside p))
+  taken : walk_of s (inside p) ≡ Ok (Some (shown value_of true p field, after s (inside p)))
 
 first_field : (s : List ℕ) (p : ℕ) (u : List Stored) (us : List (List Stored)) → Left s p (u ∷ us) → count 0x01 u ≡ 1 → FirstField s p u
 unfolding before_end
@@ -154,7 +145,7 @@ first_field s p u us l c = by (taken_from s p) refl (left_turn s p u us l).here
         end : (t : Bool) → cond t [] (f ∷ before_end fs) ≡ u → Next s p f fs → FirstField s p u
         end true h n = absurd (omega (arith, ap (count 0x01) h, c))
         end false h n =
-            record { field = f; rest = before_end fs; fields = sym h; taken = valued value_of s (inside p) _ n.walks ∙ ap (λ (x : Field). Took x (after s (inside p))) (shows f fs n) }
+            record { field = f; rest = before_end fs; fields = sym h; taken = valued value_of s (inside p) _ n.walks ∙ ap (λ (x : Field). Ok (Some (x, after s (inside p)))) (shows f fs n) }
 
 -- two records with one UUID are one, since those of different records differ
 module _ (rs : List (List Stored)) (d : (i j : ℕ) → i < j → j < length rs → uuid_of (get_or rs i []) ≡ uuid_of (get_or rs j []) → ⊥) where
@@ -169,21 +160,21 @@ module _ (rs : List (List Stored)) (d : (i j : ℕ) → i < j → j < length rs 
 
 -- ---- the call
 module _ (s uuid : List ℕ) (y : Sized 16 uuid) (x : Bytes s) where
-  abbrev answer : Sought
+  abbrev answer : Result (Option Place) NotWellFormed
   answer = (find_of s (number_low (take 8 uuid)) (number_low (take 8 (drop 8 uuid)))).sought
 
   module _ (w : WellFormed s) where
-    searched : answer ≡ first_with (number_low (take 8 uuid)) (number_low (take 8 (drop 8 uuid))) 0 (length (joined w.header) + 16) w.records
+    searched : answer ≡ Ok (first_with (number_low (take 8 uuid)) (number_low (take 8 (drop 8 uuid))) 0 (length (joined w.header) + 16) w.records)
     searched = ap (λ (f : Found). f.sought) (find_is s (number_low (take 8 uuid)) (number_low (take 8 (drop 8 uuid))) w)
 
     sections : Left s 0 (w.header ∷ w.records)
     sections = rw (← header_is s w, ← records_are s w) (left_start s (is_formed s (decides s w)))
 
-    found_at : (n p : ℕ) → answer ≡ At n p → FoundAt s uuid n p
+    found_at : (n p : ℕ) → answer ≡ Ok (Some (at_place n p)) → FoundAt s uuid n p
     found_at n p e =
         let a = number_low (take 8 uuid) in
         let b = number_low (take 8 (drop 8 uuid)) in
-        let t = first_at a b 0 (length (joined w.header) + 16) w.records n p (sym searched ∙ e) in
+        let t = first_at a b 0 (length (joined w.header) + 16) w.records n p (let z = sym searched ∙ e in cc) in
         let place : p ≡ place_behind (w.header ∷ t.before) = t.place in
         let u = t.found in
         let bytes = first_bytes 0x01 u (each_middle (λ u. Each Whole u) t.before u t.others (subst (Each (λ u. Each Whole u)) t.parts (records_whole s w))) in
@@ -207,19 +198,19 @@ module _ (s uuid : List ℕ) (y : Sized 16 uuid) (x : Bytes s) where
           taken = f.taken;
         }
 
-  by_answer : (v : Sought) → answer ≡ v → Says s uuid v
+  by_answer : (v : Result (Option Place) NotWellFormed) → answer ≡ v → Says s uuid v
   unfolding find_of
   by_answer v e = by (is_well_formed s) refl
     where
       by : (t : Bool) → is_well_formed s ≡ t → Says s uuid v
       by true h = formed ((well_formed s x).0 h) v e
         where
-          formed : (w : WellFormed s) (v : Sought) → answer ≡ v → Says s uuid v
-          formed w (At n p) e = found_at w n p e
-          formed w Nowhere e = (w, none_has uuid y w.records (first_none _ _ 0 (length (joined w.header) + 16) w.records (sym (searched w) ∙ e)))
-          formed w NotWellFormed e = absurd (first_formed _ _ 0 (length (joined w.header) + 16) w.records (sym (searched w) ∙ e))
+          formed : (w : WellFormed s) (v : Result (Option Place) NotWellFormed) → answer ≡ v → Says s uuid v
+          formed w (Ok (Some x)) e = found_at w x.number x.place e
+          formed w (Ok None) e = (w, none_has uuid y w.records (first_none _ _ 0 (length (joined w.header) + 16) w.records (let z = sym (searched w) ∙ e in cc)))
+          formed w (Err x) e = absurd (let z = sym (searched w) ∙ e in cc)
       by false h =
-          let z : v ≡ NotWellFormed = sym e ∙ rw h in
+          let z : v ≡ Err not_well_formed = sym e ∙ rw h in
           rw z (λ w. false≢true (sym h ∙ decides s w))
 
 -- a call of `find` with the halves of 16 bytes, taken by its contract
@@ -231,16 +222,16 @@ find_says s uuid r y c = by_answer s uuid y c.1 r.sought (ap (λ (f : Found). f.
 -- and a record that has the UUID is the one that it finds
 pub find_only : (s uuid : List ℕ) (r : Found) → Sized 16 uuid
     → (r ≡ find_of s (number_low (take 8 uuid)) (number_low (take 8 (drop 8 uuid)))) × Bytes s
-    → (w : WellFormed s) (i : ℕ) → i < length w.records → HasUuid uuid (get_or w.records i []) → (p : ℕ) × (r.sought ≡ At i p)
+    → (w : WellFormed s) (i : ℕ) → i < length w.records → HasUuid uuid (get_or w.records i []) → (p : ℕ) × (r.sought ≡ Ok (Some (at_place i p)))
 find_only s uuid r y c w i l h = by r.sought refl (find_says s uuid r y c)
   where
     same : (v : WellFormed s) → w.records ≡ v.records
     same v = sym (records_are s w) ∙ records_are s v
 
-    by : (v : Sought) → r.sought ≡ v → Says s uuid v → (p : ℕ) × (r.sought ≡ At i p)
-    by (At n p) e f =
+    by : (v : Result (Option Place) NotWellFormed) → r.sought ≡ v → Says s uuid v → (p : ℕ) × (r.sought ≡ Ok (Some (at_place i p)))
+    by (Ok (Some x)) e f =
         let rs : w.records ≡ f.well_formed.records = same f.well_formed in
-        let q : i ≡ n = f.only i (omega (arith, ap length rs)) (subst (λ (x : List (List Stored)). HasUuid uuid (get_or x i [])) rs h) in
-        (p, e ∙ ap (λ (k : ℕ). At k p) (sym q))
-    by Nowhere e f = absurd (each_at (λ u. HasUuid uuid u → ⊥) f.0.records [] f.1 i (omega (arith, ap length (same f.0))) (subst (λ (x : List (List Stored)). HasUuid uuid (get_or x i [])) (same f.0) h))
-    by NotWellFormed e f = absurd (f w)
+        let q : i ≡ x.number = f.only i (omega (arith, ap length rs)) (subst (λ (x : List (List Stored)). HasUuid uuid (get_or x i [])) rs h) in
+        (x.place, e ∙ ap (λ (k : ℕ). Ok (Some (at_place k x.place))) (sym q))
+    by (Ok None) e f = absurd (each_at (λ u. HasUuid uuid u → ⊥) f.0.records [] f.1 i (omega (arith, ap length (same f.0))) (subst (λ (x : List (List Stored)). HasUuid uuid (get_or x i [])) (same f.0) h))
+    by (Err x) e f = absurd (f w)

@@ -1,4 +1,5 @@
 -- What the count of a call of `find` says: it is that of the fields up to the deciding one, at most the body's length divided by 16, and 0 with 9; by what the search ends at (Deciding), read over 16 bytes.
+use Rattle.std.proofs.Common.{Option, Some, None, Result, Ok, Err}
 use Prim.Native.Nat.{ℕ, ◌+◌, ◌*◌, ◌/◌, ◌≤◌}
 use mathlib.Core.Path.{◌≡◌, refl, sym, ap, subst, ◌∙◌}
 use mathlib.Core.Bool.{Bool, true, false, cond, ◌||◌, false≢true}
@@ -15,12 +16,12 @@ use Rattle.fields.specs.Stored.{Stored, bytes_of}
 use Rattle.body.specs.Division.{Whole, joined}
 use Rattle.body.specs.Sections.{is_end, runs, count}
 use Rattle.body.specs.WellFormed.{VersionFirst, WellFormed}
-use Rattle.body.specs.Decision.{is_well_formed}
-use Rattle.body.specs.Find.{is_match, visited_in, find_of, find_number}
+use Rattle.body.specs.Decision.{is_well_formed, not_well_formed}
+use Rattle.body.specs.Find.{at_place, is_match, visited_in, find_of, find_number}
 use Rattle.body.specs.Search.{at_record, searched}
 use Rattle.body.specs.Visited.{Matches, LastEnd, NoMatch, Decides, UpTo, Visited}
-use Rattle.body.specs.declared.Sought.{Sought}
-use Rattle.body.specs.declared.Sought.TheVariants.{At, Nowhere, NotWellFormed}
+use Rattle.body.specs.declared.NotWellFormed.{NotWellFormed}
+use Rattle.body.specs.declared.Place.{Place}
 use Rattle.body.specs.declared.Found.{Found}
 use Rattle.body.proofs.Decided.{well_formed, decides, fields_are}
 use Rattle.body.proofs.Sectioned.{taken_all, is_formed, run_end, run_field, run_none}
@@ -145,14 +146,14 @@ module _ (s uuid : List ℕ) (r : Found) (y : Sized 16 uuid) (c : (r ≡ find_of
           visited = count_exactly t.before t.deciding t.behind t.parts (record { not_before = n; is = m });
         }
 
-    found_up : (n p : ℕ) → r.sought ≡ At n p → Visited s uuid (At n p) r.visited
+    found_up : (n p : ℕ) → r.sought ≡ Ok (Some (at_place n p)) → Visited s uuid (Ok (Some (at_place n p))) r.visited
     found_up n p e =
         let h = t.found n p e in
         let x = (each_middle Whole t.before t.deciding t.behind (subst (Each Whole) t.parts w.divides.whole)).content in
         let m = match_says uuid y t.before t.deciding x h.0 in
         up _ (m, omega (arith, h.1)) (inl m)
 
-    nowhere_up : r.sought ≡ Nowhere → Visited s uuid Nowhere r.visited
+    nowhere_up : r.sought ≡ Ok None → Visited s uuid (Ok None) r.visited
     nowhere_up e =
         let i = t.nowhere e in
         let l : runs (t.before ++ (t.deciding ∷ [])) ≡ (w.header ∷ w.records) ++ ([] ∷ []) =
@@ -166,20 +167,20 @@ module _ (s uuid : List ℕ) (r : Found) (y : Sized 16 uuid) (c : (r ≡ find_of
         let j : 16 * length w.fields ≤ length s = rw w.divides.parts (blocks w.fields w.divides.whole) in
         omega (arith, visited_is)
 
-  not_formed : is_well_formed s ≡ false → r ≡ record { sought = NotWellFormed; visited = 0 }
+  not_formed : is_well_formed s ≡ false → r ≡ record { sought = Err not_well_formed; visited = 0 }
   not_formed h = c.0 ∙ sym (found_not a b s h)
 
   -- what the count says beside the answer
   pub count_says : Visited s uuid r.sought r.visited
   count_says = by (is_well_formed s) refl r.sought refl
     where
-      by : (o : Bool) → is_well_formed s ≡ o → (v : Sought) → r.sought ≡ v → Visited s uuid v r.visited
-      by true h (At n p) e = found_up ((well_formed s c.1).0 h) n p e
-      by true h Nowhere e = nowhere_up ((well_formed s c.1).0 h) e
-      by true h NotWellFormed e = absurd (omega (arith, ap (λ (x : Found). find_number x.sought) c.0, ap find_number e, find_numbers_lem s a b ∙ ap (λ (o : Bool). cond o 0 9) h))
+      by : (o : Bool) → is_well_formed s ≡ o → (v : Result (Option Place) NotWellFormed) → r.sought ≡ v → Visited s uuid v r.visited
+      by true h (Ok (Some x)) e = found_up ((well_formed s c.1).0 h) x.number x.place e
+      by true h (Ok None) e = nowhere_up ((well_formed s c.1).0 h) e
+      by true h (Err x) e = absurd (omega (arith, ap (λ (y : Found). find_number y.sought) c.0, ap find_number e, find_numbers_lem s a b ∙ ap (λ (o : Bool). cond o 0 9) h))
       by false h v e =
           let z = not_formed h in
-          let i : v ≡ NotWellFormed = sym e ∙ ap (λ (x : Found). x.sought) z in
+          let i : v ≡ Err not_well_formed = sym e ∙ ap (λ (x : Found). x.sought) z in
           rw i (ap (λ (x : Found). x.visited) z)
 
   -- at most the body length divided by 16

@@ -1,4 +1,5 @@
 -- Fill, unknown types and unexpected lengths do not decide acceptance: field by field, what the clauses count, measure and compare in each section stays the same.
+use Rattle.std.proofs.Common.{Result, Err}
 use Prim.Native.Nat.{ℕ, suc, ◌+◌, ◌-◌, ◌≤◌, min}
 use mathlib.Core.Path.{◌≡◌, refl, sym, ap, ap₂, ◌∙◌}
 use mathlib.Core.Logic.{◌↔◌}
@@ -19,9 +20,9 @@ use Rattle.fields.specs.Step.{end_with_data}
 use Rattle.body.specs.Division.{Whole, joined, Divides}
 use Rattle.body.specs.Sections.{is_end, push, runs, count, first_data, covered}
 use Rattle.body.specs.WellFormed.{once_in_header, uuid_of, WellFormed}
-use Rattle.body.specs.Decision.{walkable, ends_empty, version_first, one, none, good_header, good_record, good_runs, formed, distinct, is_well_formed, header_in, records_in, covered_of, judged_of}
-use Rattle.body.specs.declared.Judged.{Judged}
-use Rattle.body.specs.declared.Judged.TheVariants.{Counts, NotWellFormed}
+use Rattle.body.specs.Decision.{walkable, ends_empty, version_first, one, none, good_header, good_record, good_runs, formed, distinct, is_well_formed, header_in, records_in, covered_of, with_counts, not_well_formed, judged_of}
+use Rattle.body.specs.declared.Counts.{Counts}
+use Rattle.body.specs.declared.NotWellFormed.{NotWellFormed}
 use Rattle.body.proofs.Division.{division, exact}
 use Rattle.body.proofs.Decided.{well_formed}
 
@@ -348,8 +349,8 @@ records_bare (u ∷ us) =
     ∙ sym (length-take (length us - 1) us)
 
 -- the judgement on fields that divide the body
-abbrev judged_by : List Stored → Judged
-judged_by fs = cond (good fs) (Counts (length (header_in (runs fs))) (length (records_in (runs fs)))) NotWellFormed
+abbrev judged_by : List Stored → Result Counts NotWellFormed
+judged_by fs = cond (good fs) (with_counts (length (header_in (runs fs))) (length (records_in (runs fs)))) (Err not_well_formed)
 
 judged_bare : (fs : List Stored) → judged_by (strip fs) ≡ judged_by fs
 judged_bare fs = rw (good_bare fs, runs_bare fs, headers_bare (runs fs), records_bare (runs fs))

@@ -1,5 +1,5 @@
 -- A mark is a bit: after one more, a type is marked that was marked or is this one. By the digits, and one computed test over the 20 types.
-use Prim.Native.Nat.{ℕ, zero, suc, ◌*◌, ◌/◌, ◌%◌, ◌^◌, ◌<◌}
+use Prim.Native.Nat.{ℕ, zero, suc, ◌/◌, ◌%◌, ◌^◌, ◌<◌}
 use mathlib.Core.Path.{◌≡◌, refl, ap, ◌∙◌}
 use mathlib.Core.Bool.{Bool, true, false, cond, ◌||◌}
 use native.Mathlib.Omega.{arith}
@@ -32,7 +32,3 @@ mark_seen w j k h g =
 
 pub none_seen : (k : ℕ) → k < 20 → is_marked 0 k ≡ false
 none_seen k h = ap (λ (n : ℕ). eqb n 1) (agree (λ k. 0 / 2 ^ k % 2) (λ k. 0) 20 tt k h)
-
--- the bit of a type stands in a word of 32
-pub one_bit : (k : ℕ) → k < 20 → 1 * 2 ^ k % 2 ^ 32 ≡ 2 ^ k
-one_bit k h = agree (λ k. 1 * 2 ^ k % 2 ^ 32) (λ k. 2 ^ k) 20 tt k h

@@ -3,20 +3,20 @@
 use Prim.Native.Nat.{ℕ, ◌+◌, ◌<◌, ◌≤◌}
 use mathlib.Core.Path.{◌≡◌, refl, sym, ap, ap₂, ◌∙◌, subst}
 use mathlib.Core.Bool.{Bool, true, false, cond, not, ◌&&◌, false≢true}
-use mathlib.Core.Logic.{inl, inr}
 use mathlib.Core.List.{List, [], ◌∷◌, ◌++◌}
 use native.Mathlib.Nat.{add-zero}
 use native.Mathlib.Omega.{arith}
 use lib.Dec.{eqb}
 use lib.ListN.{length, take, drop, length-append}
 use borrow.Author.Tests.{eqb-true}
+use Rattle.std.proofs.Common.{Option, Some, None, Result, Ok, Err}
 use Rattle.words.specs.Each.{Each}
 use Rattle.words.proofs.EachLaws.{both}
 use Rattle.fields.specs.Stored.{Stored, bytes_of, room_of}
-use Rattle.fields.specs.Step.{len_at, kind_at, end_with_data, after, step_of}
+use Rattle.fields.specs.Step.{len_at, end_with_data, taken_at, step_of}
 use Rattle.fields.specs.declared.Cursor.{Cursor}
-use Rattle.fields.specs.declared.Stepped.{Stepped}
-use Rattle.fields.specs.declared.Stepped.TheVariants.{Took, Finished, Misplaced, Broken}
+use Rattle.fields.specs.declared.Taken.{Taken}
+use Rattle.fields.specs.declared.WalkRefusal.{WalkRefusal}
 use Rattle.fields.proofs.Outcomes.{taken, forward, next_place}
 use Rattle.body.specs.Division.{joined}
 use Rattle.body.specs.Sections.{is_end, runs, first_data}
@@ -26,7 +26,7 @@ use Rattle.body.specs.RecordAt.{before_end, behind_end, spot_of, record_at, cont
 use Rattle.body.proofs.Division.{stored_long, data_long}
 use Rattle.body.proofs.Decided.{sections_in, in_sections}
 use Rattle.body.proofs.Verdict.{some_run}
-use Rattle.body.proofs.Along.{taken_took, taken_else, taken_stop, taken_fits, taken_no_data, walkable_all}
+use Rattle.body.proofs.Along.{none_at_end, none_refused, taken_took, taken_else, taken_stop, taken_fits, taken_no_data, walkable_all}
 
 -- an END is no UUID
 pub end_no_uuid : (f : Stored) → is_end f ≡ true → eqb f.kind 0x01 ≡ false
@@ -38,7 +38,7 @@ inside p = record { place = p; in_record = true }
 
 -- The walk takes f at p, and then fs.
 pub record Next (s : List ℕ) (p : ℕ) (f : Stored) (fs : List Stored) : Type 0 where
-  pub walks : step_of s (inside p) ≡ Took (kind_at s p) (len_at s p) (after s (inside p))
+  pub walks : step_of s (inside p) ≡ Ok (Some (taken_at s (inside p)))
   pub is : f ≡ stored_at s p
   pub long : length f.content ≡ len_at s p
   pub blocks : length (bytes_of f) ≡ room_of (length f.content)
@@ -46,33 +46,36 @@ pub record Next (s : List ℕ) (p : ℕ) (f : Stored) (fs : List Stored) : Type 
   pub within : p + room_of (length f.content) ≤ length s
   pub rest : taken_from s (p + room_of (length f.content)) ≡ fs
 
+same_taken : (t u : Taken) → t.kind ≡ u.kind → t.len ≡ u.len → t.next ≡ u.next → t ≡ u
+same_taken t u i j k = ap₂ (λ (m : ℕ × ℕ) (c : Cursor). record { kind = m.0; len = m.1; next = c }) (ap₂ (λ (a b : ℕ). (a, b)) i j) k
+
 pub taken_next : (s : List ℕ) (p : ℕ) (f : Stored) (fs : List Stored) → taken_from s p ≡ f ∷ fs → Next s p f fs
 taken_next s p f fs e = by (step_of s (inside p)) refl
   where
     none : taken_from s p ≡ [] → Next s p f fs
     none h = absurd (omega (arith, ap length (sym h ∙ e)))
 
-    by : (w : Stepped) → step_of s (inside p) ≡ w → Next s p f fs
-    by (Took kind len d) w =
-        let z : stored_at s p ∷ taken_from s d.place ≡ f ∷ fs = sym (taken_took s (inside p) kind len d w) ∙ e in
+    by : (y : Result (Option Taken) WalkRefusal) → step_of s (inside p) ≡ y → Next s p f fs
+    by (Ok (Some t)) w =
+        let d = t.next in
+        let z : stored_at s p ∷ taken_from s d.place ≡ f ∷ fs = sym (taken_took s (inside p) t w) ∙ e in
         let i : f ≡ stored_at s p = cc in
-        let l = data_long s p (taken_fits s (inside p) kind len d w) in
+        let l = data_long s p (taken_fits s (inside p) t w) in
         let n : length f.content ≡ len_at s p = ap (λ (x : Stored). length x.content) i ∙ l in
-        let q : d.place ≡ p + room_of (length f.content) = next_place s (inside p) kind len d w ∙ ap (λ (m : ℕ). p + room_of m) (sym n) in
+        let q : d.place ≡ p + room_of (length f.content) = next_place s (inside p) t w ∙ ap (λ (m : ℕ). p + room_of m) (sym n) in
         let r : taken_from s d.place ≡ fs = cc in
-        let t = taken s (inside p) kind len d w in
+        let x = taken s (inside p) t w in
         record {
-          walks = w ∙ rw (t.kind, t.len, t.next);
+          walks = w ∙ ap (λ (u : Taken). Ok (Some u)) (same_taken t (taken_at s (inside p)) x.kind x.len x.next);
           is = i;
           long = n;
-          blocks = ap (λ (x : Stored). length (bytes_of x)) i ∙ stored_long s p (taken_fits s (inside p) kind len d w) ∙ ap room_of (sym n);
-          no_data = ap (λ (x : Stored). end_with_data x.kind (length x.content)) i ∙ taken_no_data s (inside p) kind len d w;
-          within = omega (arith, q, (forward s (inside p) kind len d w).1);
+          blocks = ap (λ (x : Stored). length (bytes_of x)) i ∙ stored_long s p (taken_fits s (inside p) t w) ∙ ap room_of (sym n);
+          no_data = ap (λ (x : Stored). end_with_data x.kind (length x.content)) i ∙ taken_no_data s (inside p) t w;
+          within = omega (arith, q, (forward s (inside p) t w).1);
           rest = ap (taken_from s) (sym q) ∙ r;
         }
-    by Finished w = none (taken_else s (inside p) Finished (sym w) (inl refl))
-    by Misplaced w = none (taken_else s (inside p) Misplaced (sym w) (inr (inl refl)))
-    by Broken w = none (taken_else s (inside p) Broken (sym w) (inr (inr refl)))
+    by (Ok None) w = none (taken_else s (inside p) (none_at_end s (inside p) w))
+    by (Err y) w = none (taken_else s (inside p) (none_refused s (inside p) y w))
 
 -- an END takes a block
 end_room : (f : Stored) → end_with_data f.kind (length f.content) ≡ false → is_end f ≡ true → room_of (length f.content) ≡ 16

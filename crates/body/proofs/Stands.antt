@@ -1,42 +1,38 @@
 -- Where the pass over the sections stands: the fields of the present section, what the code keeps of them, and that the verdict on the rest is the verdict on the body: a turn of the loop is a step of the verdict.
-use Prim.Native.Nat.{ℕ, ◌+◌, ◌%◌, ◌<◌, ◌≤◌}
-use mathlib.Core.Path.{◌≡◌, refl, sym, ap, ap₂, ◌∙◌}
+use Rattle.std.proofs.Common.{Some, Ok, Err}
+use Prim.Native.Nat.{ℕ, ◌+◌, ◌%◌, ◌≤◌}
+use mathlib.Core.Path.{◌≡◌, refl, sym, ap, ◌∙◌}
 use mathlib.Core.Logic.{⊎_elim}
-use mathlib.Core.Bool.{Bool, true, false, cond, not, ◌&&◌, ◌||◌, or-true, or-false, false≢true}
+use mathlib.Core.Bool.{Bool, true, false, cond, not, ◌&&◌, and-false}
 use mathlib.Core.List.{List, [], ◌∷◌, ◌++◌}
 use native.Mathlib.Nat.{add-zero}
 use native.Mathlib.Omega.{arith}
-use lib.Dec.{eqb}
 use lib.ListN.{length}
-use types.Run.{OneOf}
-use denote.Enum.Declared.{tag_of}
-use borrow.Author.Tests.{eq-eqb, not-false}
+use borrow.Author.Tests.{eq-eqb}
 use Rattle.fields.specs.Stored.{Stored, room_of}
 use Rattle.fields.specs.Step.{start, len_at, step_of}
 use Rattle.fields.specs.declared.Cursor.{Cursor}
-use Rattle.fields.specs.declared.Stepped.{Stepped}
-use Rattle.fields.specs.declared.Stepped.TheVariants.{Took}
-use Rattle.fields.specs.contracts.Stepped as a_step
-use Rattle.fields.proofs.Outcomes.{taken, forward}
+use Rattle.fields.specs.declared.Taken.{Taken}
+use Rattle.fields.specs.declared.WalkRefusal.{WalkRefusal}
+use Rattle.fields.proofs.Outcomes.{at_end, forward}
 use Rattle.body.specs.Sections.{is_end}
-use Rattle.body.specs.Decision.{stored_at, fields_from, exact_from, none}
-use Rattle.body.specs.Tally.{sections_of, empty_section, noted, passes, stepped, header_field, record_end}
-use Rattle.body.specs.declared.tally.Section.{Section}
-use Rattle.body.specs.declared.Judged.TheVariants.{Counts, NotWellFormed}
+use Rattle.body.specs.Decision.{stored_at, fields_from, exact_from, none, with_counts, not_well_formed}
+use Rattle.body.specs.Tally.{sections_of, empty_section, noted, passes, tallied, finished, start as begun}
+use Rattle.body.specs.declared.tally.Tally.{Tally}
 use Rattle.body.proofs.Sums.{Sums, sums_empty, sums_note, sums_passes, sums_fresh}
 use Rattle.body.proofs.Verdict.{verdict, verdict_start, verdict_end, verdict_field, verdict_stop, verdict_broken, verdict_ended}
-use Rattle.body.proofs.Along.{from_took, from_end, taken_kind, taken_length, taken_no_data, exact_took, untaken, cut_off}
+use Rattle.body.proofs.Along.{from_took, from_end, taken_kind, taken_length, taken_no_data, exact_took, TakesNone, none_refused, untaken, cut_off}
 
-pub record Stands (s : List ℕ) (c : Cursor) (x : Section) (h n : ℕ) : Type 0 where
+pub record Stands (s : List ℕ) (c : Cursor) (x : Tally) : Type 0 where
   pub cur : List Stored
   pub right : Bool
-  pub sums : Sums c.in_record cur right x
+  pub sums : Sums cur right x.section
   pub within : c.place ≤ length s
   pub aligned : c.place % 16 ≡ 0
-  pub few : h + n ≤ c.place
-  pub rest : verdict right c.in_record cur h n (exact_from s c.place) (fields_from s c.place) ≡ sections_of s
+  pub few : x.counts.headers + x.counts.records ≤ c.place
+  pub rest : verdict right x.section.in_record cur x.counts.headers x.counts.records (exact_from s c.place) (fields_from s c.place) ≡ sections_of s
 
-pub stands_start : (s : List ℕ) → Stands s start (empty_section true) 0 0
+pub stands_start : (s : List ℕ) → Stands s start begun
 stands_start s =
     record { cur = []; right = true; sums = sums_empty false true; within = omega arith; aligned = refl; few = omega arith; rest = verdict_start s }
 
@@ -44,128 +40,96 @@ zero : (r : Bool) → ◌≡◌ {A = ℕ} (cond r 0 0) 0
 zero true = refl
 zero false = refl
 
-module _ (s : List ℕ) (c : Cursor) (x : Section) (h n : ℕ) (t : Stands s c x h n) where
+module _ (s : List ℕ) (c : Cursor) (x : Tally) (k : Stands s c x) where
+  abbrev r : Bool
+  r = x.section.in_record
+
+  abbrev h : ℕ
+  h = x.counts.headers
+
+  abbrev n : ℕ
+  n = x.counts.records
+
   -- the walk takes no field
-  pub stands_broken : (w : Stepped) → w ≡ step_of s c → c.place < length s → OneOf (1 ∷ 2 ∷ 3 ∷ []) (tag_of a_step.the_type w) → NotWellFormed ≡ sections_of s
-  stands_broken w q l o =
-      let r = c.in_record in
+  pub stands_broken : (c.place ≡ length s → ⊥) → TakesNone s c → Err not_well_formed ≡ sections_of s
+  stands_broken l o =
       ⊎_elim
-      (λ e. verdict_broken t.right r t.cur h n (fields_from s c.place)
-      ∙ ap (λ (b : Bool). verdict t.right r t.cur h n b (fields_from s c.place)) (sym (cut_off s c.place e l)) ∙ t.rest)
-      (λ e. verdict_ended t.right r t.cur h n (exact_from s c.place) (stored_at s c.place) (fields_from s (c.place + room_of (len_at s c.place))) e.1
-      ∙ ap (verdict t.right r t.cur h n (exact_from s c.place)) (sym e.0) ∙ t.rest)
-      (untaken s c w q t.aligned o)
+      (λ e. verdict_broken k.right r k.cur h n (fields_from s c.place)
+      ∙ ap (λ (b : Bool). verdict k.right r k.cur h n b (fields_from s c.place)) (sym (cut_off s c.place e (omega (arith, k.within)))) ∙ k.rest)
+      (λ e. verdict_ended k.right r k.cur h n (exact_from s c.place) (stored_at s c.place) (fields_from s (c.place + room_of (len_at s c.place))) e.1
+      ∙ ap (verdict k.right r k.cur h n (exact_from s c.place)) (sym e.0) ∙ k.rest)
+      (untaken s c k.aligned o)
 
-  -- the end
-  pub stands_stop : length s ≤ c.place → sections_of s ≡ cond (t.right && (c.in_record && none t.cur)) (Counts h n) NotWellFormed
-  stands_stop l =
-      let e : exact_from s c.place ≡ true = rw (from_end s c l, add-zero c.place) (eq-eqb c.place (length s) (omega (arith, t.within))) in
-      sym t.rest
-      ∙ ap (verdict t.right c.in_record t.cur h n (exact_from s c.place)) (from_end s c l)
-      ∙ verdict_stop t.right c.in_record t.cur h n (exact_from s c.place) e
+  -- a refusal of the walk
+  pub stands_refused : (y : WalkRefusal) → step_of s c ≡ Err y → Err not_well_formed ≡ sections_of s
+  stands_refused y e = stands_broken (λ l. let z = sym e ∙ at_end s c k.aligned l in cc) (none_refused s c y e)
 
-  module _ (l : length s ≤ c.place) where
-    pub stands_used : x.used ≡ true → NotWellFormed ≡ sections_of s
-    stands_used u = sym (stands_stop l ∙ by t.right c.in_record (none t.cur) (sym t.sums.used ∙ u))
-      where
-        by : (b r o : Bool) → not o ≡ true → cond (b && (r && o)) (Counts h n) NotWellFormed ≡ NotWellFormed
-        by b r true k = absurd (false≢true k)
-        by true true false k = refl
-        by true false false k = refl
-        by false r false k = refl
+  -- the end: nothing follows the last END
+  pub stands_ended : c.place ≡ length s → finished x ≡ sections_of s
+  stands_ended l =
+      let e : exact_from s c.place ≡ true = rw (from_end s c (omega arith), add-zero c.place) (eq-eqb c.place (length s) l) in
+      ap (λ (b : Bool). cond b (with_counts h n) (Err not_well_formed)) (by (none k.cur) refl)
+      ∙ sym (verdict_stop k.right r k.cur h n (exact_from s c.place) e)
+      ∙ ap (verdict k.right r k.cur h n (exact_from s c.place)) (sym (from_end s c (omega arith))) ∙ k.rest
+    where
+      swap : (a b c : Bool) → a && (b && c) ≡ b && (a && c)
+      swap true b c = refl
+      swap false true c = refl
+      swap false false c = refl
 
-    -- nothing follows the last END
-    pub stands_ended : x.used ≡ false → sections_of s ≡ cond x.fine (cond c.in_record (Counts h n) NotWellFormed) NotWellFormed
-    stands_ended u =
-        let o : none t.cur ≡ true = not-false (none t.cur) (sym t.sums.used ∙ u) in
-        stands_stop l ∙ rw (o, sums_fresh c.in_record t.cur t.right x t.sums o) (by t.right c.in_record)
-      where
-        by : (b r : Bool) → cond (b && (r && true)) (Counts h n) NotWellFormed ≡ cond b (cond r (Counts h n) NotWellFormed) NotWellFormed
-        by true true = refl
-        by true false = refl
-        by false r = refl
+      by : (o : Bool) → none k.cur ≡ o → r && (x.section.fine && not x.section.used) ≡ k.right && (r && none k.cur)
+      by true o = rw (k.sums.used, o, sums_fresh k.cur k.right x.section k.sums o) (swap r k.right true)
+      by false o = rw (k.sums.used, o, and-false x.section.fine, and-false r, and-false k.right)
 
-  module _ (kind len : ℕ) (d : Cursor) (e : step_of s c ≡ Took kind len d) where
-    -- in a record, after this field
-    passed : (b : Bool) → is_end (stored_at s c.place) ≡ b → d.in_record ≡ c.in_record || b
-    passed b k = ap (λ (y : Cursor). y.in_record) (taken s c kind len d e).next ∙ ap (◌||◌ c.in_record) k
-
-    next : verdict t.right c.in_record t.cur h n (exact_from s d.place) (stored_at s c.place ∷ fields_from s d.place) ≡ sections_of s
+  module _ (t : Taken) (e : step_of s c ≡ Ok (Some t)) where
+    next : verdict k.right r k.cur h n (exact_from s t.next.place) (stored_at s c.place ∷ fields_from s t.next.place) ≡ sections_of s
     next =
-        ap (λ (b : Bool). verdict t.right c.in_record t.cur h n b (stored_at s c.place ∷ fields_from s d.place)) (sym (exact_took s c kind len d e))
-        ∙ ap (verdict t.right c.in_record t.cur h n (exact_from s c.place)) (sym (from_took s c kind len d e))
-        ∙ t.rest
+        ap (λ (b : Bool). verdict k.right r k.cur h n b (stored_at s c.place ∷ fields_from s t.next.place)) (sym (exact_took s c t e))
+        ∙ ap (verdict k.right r k.cur h n (exact_from s c.place)) (sym (from_took s c t e))
+        ∙ k.rest
 
-    ended : is_end (stored_at s c.place) ≡ true → Stands s d (empty_section (passes x c.in_record)) h (n + cond c.in_record 1 0)
-    ended k =
-        let w = forward s c kind len d e in
-        let r : d.in_record ≡ true = passed true k ∙ or-true c.in_record in
-        let p = sums_passes c.in_record t.cur t.right x t.sums in
+    ended : is_end (stored_at s c.place) ≡ true → Stands s t.next (record { section = empty_section true (passes x.section); counts = record { headers = h; records = n + cond r 1 0 } })
+    ended i =
+        let w = forward s c t e in
         record {
           cur = [];
-          right = passes x c.in_record;
-          sums = sums_empty d.in_record (passes x c.in_record);
+          right = passes x.section;
+          sums = sums_empty true (passes x.section);
           within = w.1;
           aligned = w.2;
-          few = little c.in_record w.0;
-          rest = ap₂ (λ (b r : Bool). verdict b r [] h (n + cond c.in_record 1 0) (exact_from s d.place) (fields_from s d.place)) p r
-              ∙ sym (verdict_end t.right c.in_record t.cur h n (exact_from s d.place) (stored_at s c.place) (fields_from s d.place) (taken_no_data s c kind len d e) k)
+          few = little r w.0;
+          rest = ap (λ (b : Bool). verdict b true [] h (n + cond r 1 0) (exact_from s t.next.place) (fields_from s t.next.place)) (sums_passes k.cur k.right x.section k.sums)
+              ∙ sym (verdict_end k.right r k.cur h n (exact_from s t.next.place) (stored_at s c.place) (fields_from s t.next.place) (taken_no_data s c t e) i)
               ∙ next;
         }
       where
-        little : (r : Bool) → c.place + 16 ≤ d.place → h + (n + cond r 1 0) ≤ d.place
-        little true l = omega (arith, t.few)
-        little false l = omega (arith, t.few)
+        little : (r : Bool) → c.place + 16 ≤ t.next.place → h + (n + cond r 1 0) ≤ t.next.place
+        little true l = omega (arith, k.few)
+        little false l = omega (arith, k.few)
 
     noting : is_end (stored_at s c.place) ≡ false
-        → Stands s d (noted x c.in_record (stored_at s c.place).kind (length (stored_at s c.place).content)) (h + cond c.in_record 0 1) n
-    noting k =
-        let w = forward s c kind len d e in
-        let r : d.in_record ≡ c.in_record = passed false k ∙ or-false c.in_record in
+        → Stands s t.next (record { section = noted x.section (stored_at s c.place).kind (length (stored_at s c.place).content); counts = record { headers = h + cond r 0 1; records = n } })
+    noting i =
+        let w = forward s c t e in
         let g = stored_at s c.place in
         record {
-          cur = t.cur ++ (g ∷ []);
-          right = t.right;
-          sums = rw r (sums_note c.in_record t.cur t.right x g t.sums);
+          cur = k.cur ++ (g ∷ []);
+          right = k.right;
+          sums = sums_note k.cur k.right x.section g k.sums;
           within = w.1;
           aligned = w.2;
-          few = little c.in_record w.0;
-          rest = ap (λ (b : Bool). verdict t.right b (t.cur ++ (g ∷ [])) (h + cond c.in_record 0 1) n (exact_from s d.place) (fields_from s d.place)) r
-              ∙ sym (verdict_field t.right c.in_record t.cur h n (exact_from s d.place) g (fields_from s d.place) (taken_no_data s c kind len d e) k)
-              ∙ next;
+          few = little r w.0;
+          rest = sym (verdict_field k.right r k.cur h n (exact_from s t.next.place) g (fields_from s t.next.place) (taken_no_data s c t e) i) ∙ next;
         }
       where
-        little : (r : Bool) → c.place + 16 ≤ d.place → h + cond r 0 1 + n ≤ d.place
-        little true l = omega (arith, t.few)
-        little false l = omega (arith, t.few)
-
-    moved : (x' x'' : Section) (h' h'' n' n'' : ℕ) → x' ≡ x'' → h' ≡ h'' → n' ≡ n'' → Stands s d x'' h'' n'' → Stands s d x' h' n'
-    moved x' x'' h' h'' n' n'' p q r y = rw (p, q, r) y
+        little : (r : Bool) → c.place + 16 ≤ t.next.place → h + cond r 0 1 + n ≤ t.next.place
+        little true l = omega (arith, k.few)
+        little false l = omega (arith, k.few)
 
     -- one field more
-    pub stands_took : (x' : Section) (i j : ℕ) → x' ≡ stepped x c.in_record kind len → i ≡ header_field c.in_record kind → j ≡ record_end c.in_record kind
-        → Stands s d x' (h + i) (n + j)
-    stands_took x' i j p q u =
-        let g = stored_at s c.place in
-        let k = taken_kind s c kind len d e in
-        let l = taken_length s c kind len d e in
-        by (is_end g) refl (p ∙ rw (k, l)) (q ∙ rw k) (u ∙ rw k)
+    pub stands_took : (x' : Tally) → x' ≡ tallied x t.kind t.len → Stands s t.next x'
+    stands_took x' p = rw (p, taken_kind s c t e, taken_length s c t e) (by (is_end (stored_at s c.place)) refl)
       where
-        by : (b : Bool) → is_end (stored_at s c.place) ≡ b
-            → x' ≡ stepped x c.in_record (stored_at s c.place).kind (length (stored_at s c.place).content)
-            → i ≡ header_field c.in_record (stored_at s c.place).kind → j ≡ record_end c.in_record (stored_at s c.place).kind
-            → Stands s d x' (h + i) (n + j)
-        by true b p q u =
-            moved x' _ (h + i) h (n + j) (n + cond c.in_record 1 0) (p ∙ rw b) (ap (◌+◌ h) (q ∙ rw b (zero c.in_record)) ∙ add-zero h) (ap (◌+◌ n) (u ∙ rw b)) (ended b)
-        by false b p q u =
-            moved x' _ (h + i) (h + cond c.in_record 0 1) (n + j) n (p ∙ rw b) (ap (◌+◌ h) (q ∙ rw b)) (ap (◌+◌ n) (u ∙ rw b (zero c.in_record)) ∙ add-zero n) (noting b)
-
--- at most one more
-pub at_most_one : (r : Bool) (k : ℕ) → (header_field r k ≤ 1) × (record_end r k ≤ 1)
-at_most_one r k = by r (eqb k 0xff)
-  where
-    by : (r b : Bool) → (cond r 0 (cond b 0 1) ≤ 1) × (cond r (cond b 1 0) 0 ≤ 1)
-    by true true = (omega arith, omega arith)
-    by true false = (omega arith, omega arith)
-    by false true = (omega arith, omega arith)
-    by false false = (omega arith, omega arith)
+        by : (b : Bool) → is_end (stored_at s c.place) ≡ b → Stands s t.next (tallied x (stored_at s c.place).kind (length (stored_at s c.place).content))
+        by true b = rw (b, zero r, add-zero h) (ended b)
+        by false b = rw (b, zero r, add-zero n) (noting b)

@@ -27,10 +27,10 @@ abbrev lengths : Bool → List Stored → Bool
 lengths r fs = all_in (λ f. length_fits r f.kind (length f.content)) fs
 
 -- the section has the fields cur so far; b: what came before it is right
-pub record Sums (r : Bool) (cur : List Stored) (b : Bool) (x : Section) : Type 0 where
+pub record Sums (cur : List Stored) (b : Bool) (x : Section) : Type 0 where
   pub used : x.used ≡ not (none cur)
-  pub seen : (k : ℕ) → among k (once r) ≡ true → is_marked x.seen k ≡ ltb 0 (count k cur)
-  pub fine : x.fine ≡ b && (lengths r cur && at_most_once (once r) cur)
+  pub seen : (k : ℕ) → among k (once x.in_record) ≡ true → is_marked x.seen k ≡ ltb 0 (count k cur)
+  pub fine : x.fine ≡ b && (lengths x.in_record cur && at_most_once (once x.in_record) cur)
 
 -- a field at the end
 count_last : (k : ℕ) (cur : List Stored) (f : Stored) → count k (cur ++ (f ∷ [])) ≡ count k cur + cond (eqb f.kind k) 1 0
@@ -52,7 +52,7 @@ some_last : (cur : List Stored) (f : Stored) → none (cur ++ (f ∷ [])) ≡ fa
 some_last [] f = refl
 some_last (g ∷ cur) f = refl
 
-pub alike : (a b : Bool) → T (beq a b) → a ≡ b
+alike : (a b : Bool) → T (beq a b) → a ≡ b
 alike true true h = refl
 alike false false h = refl
 alike true false h = absurd h
@@ -79,13 +79,11 @@ again (t ∷ ts) f cur =
     (λ e. ap (λ (k : ℕ). count k cur) (sym (eqb-true f.kind t e))) (again ts f cur)
 
 fine_step : (b f l a m s c : Bool) → (m ≡ true → s ≡ c)
-    → cond (b && (l && a)) (cond f (cond m (not s) true) false) false ≡ b && ((f && l) && (a && not (m && c)))
+    → (b && (l && a)) && (f && not (m && s)) ≡ b && ((f && l) && (a && not (m && c)))
 fine_step false f l a m s c h = refl
+fine_step true false l a m s c h = and-false (l && a)
 fine_step true true false a m s c h = refl
-fine_step true false false a m s c h = refl
 fine_step true true true false m s c h = refl
-fine_step true false true false m s c h = refl
-fine_step true false true true m s c h = refl
 fine_step true true true true true s c h = ap not (h refl)
 fine_step true true true true false s c h = refl
 
@@ -118,9 +116,10 @@ seen_step w j k n true e f h q g i = mark_seen w j k (f refl) h ∙ ap₂ ◌||�
 seen_step w j k n false true f h q g i = absurd (false≢true (g refl))
 seen_step w j k n false false f h q g i = rw (add-zero) i
 
-pub sums_note : (r : Bool) (cur : List Stored) (b : Bool) (x : Section) (f : Stored) → Sums r cur b x
-    → Sums r (cur ++ (f ∷ [])) b (noted x r f.kind (length f.content))
-sums_note r cur b x f s =
+pub sums_note : (cur : List Stored) (b : Bool) (x : Section) (f : Stored) → Sums cur b x
+    → Sums (cur ++ (f ∷ [])) b (noted x f.kind (length f.content))
+sums_note cur b x f s =
+    let r = x.in_record in
     let k = f.kind in
     let n = length f.content in
     record {
@@ -128,15 +127,18 @@ sums_note r cur b x f s =
       seen = λ j o. seen_step x.seen k j (count j cur) (among k (once r)) (eqb k j) (small r k) (small r j o) refl
           (λ e. ap (λ (i : ℕ). among i (once r)) (eqb-true k j e) ∙ o) (s.seen j o)
           ∙ ap (ltb 0) (sym (count_last j cur f));
-      fine = ap (λ (y : Bool). cond y (cond (length_fits r k n) (cond (among k (once r)) (not (is_marked x.seen k)) true) false) false) s.fine
+      fine = ap (λ (y : Bool). y && (length_fits r k n && not (among k (once r) && is_marked x.seen k))) s.fine
           ∙ fine_step b (length_fits r k n) (lengths r cur) (at_most_once (once r) cur) (among k (once r)) (is_marked x.seen k) (ltb 0 (count k cur)) (s.seen k)
           ∙ ap₂ (λ (y z : Bool). b && (y && z)) (sym (all_last (λ g. length_fits r g.kind (length g.content)) cur f)) (sym (again (once r) f cur));
     }
 
-pub sums_empty : (r b : Bool) → Sums r [] b (empty_section b)
+none_twice : (r : Bool) → at_most_once (once r) [] ≡ true
 unfolding once
-sums_empty false b = record { used = refl; seen = λ k o. none_seen k (small false k o); fine = sym (and-true b) }
-sums_empty true b = record { used = refl; seen = λ k o. none_seen k (small true k o); fine = sym (and-true b) }
+none_twice true = refl
+none_twice false = refl
+
+pub sums_empty : (r b : Bool) → Sums [] b (empty_section r b)
+sums_empty r b = record { used = refl; seen = λ k o. none_seen k (small r k o); fine = rw (none_twice r) (sym (and-true b)) }
 
 exactly : (n : ℕ) → eqb n 1 ≡ leb n 1 && ltb 0 n
 exactly zero = refl
@@ -147,10 +149,6 @@ any_length : (cur : List Stored) → lengths false cur ≡ true
 unfolding length_fits
 any_length [] = refl
 any_length (f ∷ cur) = any_length cur
-
-same : (b : Bool) → cond b true false ≡ b
-same true = refl
-same false = refl
 
 -- the length of a field of type k is right
 abbrev sizes : ℕ → (ℕ → Bool) → List Stored → Bool
@@ -212,7 +210,7 @@ at_each f t false = right (f true) (f false) t
 -- fine, and each of three seen: each of the three once, each of its length
 abbrev three : Bool → Bool → Bool → Bool → Bool → Bool → Bool → Bool → Bool → Bool → Bool
 three b l m n i j k x y z =
-    beq (cond (b && ((l && (m && n)) && (i && (j && (k && true))))) (cond x (cond y z false) false) false)
+    beq ((b && ((l && (m && n)) && (i && (j && (k && true))))) && (x && (y && z)))
     (b && (((i && x) && l) && (((j && y) && m) && ((k && z) && n))))
 
 all_three : (b l m n i j k x y z : Bool) → T (three b l m n i j k x y z)
@@ -228,18 +226,20 @@ all_three b l m n i j k x y z =
     (at_each (λ l. every (λ m. every (λ n. every (λ i. every (λ j. every (λ k. every (λ x. every (λ y. every (λ z. three b l m n i j k x y z)))))))))
     (at_each (λ b. every (λ l. every (λ m. every (λ n. every (λ i. every (λ j. every (λ k. every (λ x. every (λ y. every (λ z. three b l m n i j k x y z)))))))))) tt b) l) m) n) i) j) k) x) y) z
 
-pub sums_passes : (r : Bool) (cur : List Stored) (b : Bool) (x : Section) → Sums r cur b x → passes x r ≡ b && cond r (good_record cur) (good_header cur)
+pub sums_passes : (cur : List Stored) (b : Bool) (x : Section) → Sums cur b x → passes x ≡ b && cond x.in_record (good_record cur) (good_header cur)
 unfolding once good_header good_record
-sums_passes false cur b x s = rw (s.fine, any_length cur) (same (b && at_most_once once_in_header cur))
-sums_passes true cur b x s =
-    let c : ℕ → ℕ = λ k. count k cur in
-    rw (s.fine, s.seen 1 refl, s.seen 3 refl, s.seen 6 refl, lengths_apart cur, exactly (c 1), exactly (c 3), exactly (c 6))
-    (alike _ _ (all_three b (sizes 0x01 (λ n. eqb n 16) cur) (sizes 0x03 (λ n. leb 1 n) cur) (sizes 0x06 (λ n. leb 1 n) cur)
-    (leb (c 1) 1) (leb (c 3) 1) (leb (c 6) 1) (ltb 0 (c 1)) (ltb 0 (c 3)) (ltb 0 (c 6))))
+sums_passes cur b x s = by x.in_record refl
+  where
+    by : (r : Bool) → x.in_record ≡ r → passes x ≡ b && cond r (good_record cur) (good_header cur)
+    by false e = rw (s.fine, e, any_length cur) (and-true (b && at_most_once once_in_header cur))
+    by true e =
+        let c : ℕ → ℕ = λ k. count k cur in
+        let seen : (k : ℕ) → among k (once true) ≡ true → is_marked x.seen k ≡ ltb 0 (c k) = rw e at s.seen in
+        rw (s.fine, e, seen 1 refl, seen 3 refl, seen 6 refl, lengths_apart cur, exactly (c 1), exactly (c 3), exactly (c 6))
+        (alike _ _ (all_three b (sizes 0x01 (λ n. eqb n 16) cur) (sizes 0x03 (λ n. leb 1 n) cur) (sizes 0x06 (λ n. leb 1 n) cur)
+        (leb (c 1) 1) (leb (c 3) 1) (leb (c 6) 1) (ltb 0 (c 1)) (ltb 0 (c 3)) (ltb 0 (c 6))))
 
 -- in a section without a field, what came before decides
-pub sums_fresh : (r : Bool) (cur : List Stored) (b : Bool) (x : Section) → Sums r cur b x → none cur ≡ true → x.fine ≡ b
-unfolding once
-sums_fresh true [] b x s h = s.fine ∙ and-true b
-sums_fresh false [] b x s h = s.fine ∙ and-true b
-sums_fresh r (f ∷ cur) b x s h = absurd (false≢true h)
+pub sums_fresh : (cur : List Stored) (b : Bool) (x : Section) → Sums cur b x → none cur ≡ true → x.fine ≡ b
+sums_fresh [] b x s h = s.fine ∙ rw (none_twice x.in_record) (and-true b)
+sums_fresh (f ∷ cur) b x s h = absurd (false≢true h)

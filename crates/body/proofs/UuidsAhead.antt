@@ -7,11 +7,11 @@ use native.Mathlib.Omega.{arith}
 use lib.Dec.{eqb}
 use lib.ListN.{length, length-append}
 use borrow.Author.Tests.{eqb-true, eq-eqb}
+use Rattle.std.proofs.Common.{Option}
 use Rattle.words.specs.Each.{Each}
 use Rattle.fields.specs.Stored.{Stored, room_of, bytes_of}
 use Rattle.fields.specs.Step.{len_at, data_at}
 use Rattle.uuids.specs.Uuids.{is_uuid_at, uuids_from, Repeats}
-use Rattle.uuids.specs.declared.Repeat.{Repeat}
 use Rattle.uuids.proofs.Steps.{none_fits, fits}
 use Rattle.body.specs.Division.{joined, Divides}
 use Rattle.body.specs.Sections.{is_end, push, runs, count, first_data}
@@ -101,7 +101,7 @@ uuids_ahead s h = uuids_left s _ _ (left_start s h) (good_start s h)
 
 -- A call of `uuids::repeated` at the place behind the header, taken by its contract: the answer is the first record whose UUID an earlier record has, or no two have the same.
 -- Of the clauses of a well-formed body it needs those on fields, ENDs, sections and mandatory fields.
-pub first_repeated : (s : List ℕ) (fs h : List Stored) (rs : List (List Stored)) (r : Repeat)
+pub first_repeated : (s : List ℕ) (fs h : List Stored) (rs : List (List Stored)) (r : Option ℕ)
     → Divides s fs → Each (λ f. f.kind ≡ 0xff → length f.content ≡ 0) fs → runs fs ≡ h ∷ (rs ++ ([] ∷ [])) → Each GoodRecord rs
     → Repeats (uuids_from s (place_behind (h ∷ []))) r → Repeats (map uuid_of rs) r
 first_repeated s fs h rs r d e k g x =

@@ -1,4 +1,5 @@
 -- The verdict on the rest of the fields, given the present section so far, is the verdict on the whole: one field more goes to the section or ends it.
+use Rattle.std.proofs.Common.{Result, Err}
 use Prim.Native.Nat.{ℕ, suc, ◌+◌, ◌-◌, ◌≤◌}
 use mathlib.Core.Path.{◌≡◌, refl, ap}
 use mathlib.Core.Bool.{Bool, true, false, cond, ◌&&◌}
@@ -10,10 +11,10 @@ use lib.Seq.{length-take-le}
 use Rattle.fields.specs.Stored.{Stored}
 use Rattle.fields.specs.Step.{end_with_data}
 use Rattle.body.specs.Sections.{is_end, push, runs}
-use Rattle.body.specs.Decision.{fields_of, exact_from, ends_empty, none, good_header, good_record, good_runs, header_in, records_in}
+use Rattle.body.specs.Decision.{fields_of, exact_from, ends_empty, none, good_header, good_record, good_runs, header_in, records_in, with_counts, not_well_formed}
 use Rattle.body.specs.Tally.{sections_of}
-use Rattle.body.specs.declared.Judged.{Judged}
-use Rattle.body.specs.declared.Judged.TheVariants.{Counts, NotWellFormed}
+use Rattle.body.specs.declared.Counts.{Counts}
+use Rattle.body.specs.declared.NotWellFormed.{NotWellFormed}
 
 -- the fields cur before the first run
 abbrev glue : List Stored → List (List Stored) → List (List Stored)
@@ -28,9 +29,9 @@ abbrev records_left : Bool → List (List Stored) → ℕ
 records_left r us = length us - cond r 1 2
 
 -- h header fields and n records so far, the present section with the fields cur; b: all before it is right; e: the fields fs that are left reach the end
-abbrev pub verdict : Bool → Bool → List Stored → ℕ → ℕ → Bool → List Stored → Judged
+abbrev pub verdict : Bool → Bool → List Stored → ℕ → ℕ → Bool → List Stored → Result Counts NotWellFormed
 verdict b r cur h n e fs =
-    cond (b && (e && (ends_empty fs && good_runs r (glue cur (runs fs))))) (Counts (h + headers_left r (runs fs)) (n + records_left r (runs fs))) NotWellFormed
+    cond (b && (e && (ends_empty fs && good_runs r (glue cur (runs fs))))) (with_counts (h + headers_left r (runs fs)) (n + records_left r (runs fs))) (Err not_well_formed)
 
 -- there is always a run
 pub some_run : (fs : List Stored) → (u : List Stored) × (us : List (List Stored)) × (runs fs ≡ u ∷ us)
@@ -43,7 +44,7 @@ some_run (f ∷ fs) = by (is_end f) (some_run fs)
     by true r = ([], runs fs, refl)
     by false r = (f ∷ r.0, r.1, ap (push f) r.2)
 
-alike : (a b : Bool) (h h' n n' : ℕ) → a ≡ b → h ≡ h' → n ≡ n' → cond a (Counts h n) NotWellFormed ≡ cond b (Counts h' n') NotWellFormed
+alike : (a b : Bool) (h h' n n' : ℕ) → a ≡ b → h ≡ h' → n ≡ n' → cond a (with_counts h n) (Err not_well_formed) ≡ cond b (with_counts h' n') (Err not_well_formed)
 alike a b h h' n n' p q r = rw (p, q, r)
 
 module _ (b r : Bool) (cur : List Stored) (h n : ℕ) (e : Bool) (f : Stored) (fs : List Stored) (d : end_with_data f.kind (length f.content) ≡ false) where
@@ -84,11 +85,11 @@ module _ (b r : Bool) (cur : List Stored) (h n : ℕ) (e : Bool) (f : Stored) (f
 
 -- no field is left
 pub verdict_stop : (b r : Bool) (cur : List Stored) (h n : ℕ) (e : Bool) → e ≡ true
-    → verdict b r cur h n e [] ≡ cond (b && (r && none cur)) (Counts h n) NotWellFormed
+    → verdict b r cur h n e [] ≡ cond (b && (r && none cur)) (with_counts h n) (Err not_well_formed)
 unfolding runs good_runs
 verdict_stop b r cur h n e k = rw (k, append-nil cur) (by b r)
   where
-    by : (b r : Bool) → cond (b && (r && none cur)) (Counts (h + cond r 0 0) (n + (1 - cond r 1 2))) NotWellFormed ≡ cond (b && (r && none cur)) (Counts h n) NotWellFormed
+    by : (b r : Bool) → cond (b && (r && none cur)) (with_counts (h + cond r 0 0) (n + (1 - cond r 1 2))) (Err not_well_formed) ≡ cond (b && (r && none cur)) (with_counts h n) (Err not_well_formed)
     by b true = rw (add-zero h, add-zero n)
     by true false = refl
     by false false = refl
@@ -102,18 +103,18 @@ verdict_start s = let t = some_run (fields_of s) in rw (t.2, zero-add (length t.
     counts us = let l : length us - 1 ≤ length us = omega arith in let e = length-take-le (length us - 1) us l in omega (arith, e)
 
 -- what is left does not reach the end, or has an END with data
-pub verdict_broken : (b r : Bool) (cur : List Stored) (h n : ℕ) (fs : List Stored) → NotWellFormed ≡ verdict b r cur h n false fs
+pub verdict_broken : (b r : Bool) (cur : List Stored) (h n : ℕ) (fs : List Stored) → Err not_well_formed ≡ verdict b r cur h n false fs
 verdict_broken b r cur h n fs = by b
   where
-    by : (b : Bool) → NotWellFormed ≡ cond (b && false) (Counts (h + headers_left r (runs fs)) (n + records_left r (runs fs))) NotWellFormed
+    by : (b : Bool) → Err not_well_formed ≡ cond (b && false) (with_counts (h + headers_left r (runs fs)) (n + records_left r (runs fs))) (Err not_well_formed)
     by true = refl
     by false = refl
 
 pub verdict_ended : (b r : Bool) (cur : List Stored) (h n : ℕ) (e : Bool) (f : Stored) (fs : List Stored) → end_with_data f.kind (length f.content) ≡ true
-    → NotWellFormed ≡ verdict b r cur h n e (f ∷ fs)
+    → Err not_well_formed ≡ verdict b r cur h n e (f ∷ fs)
 verdict_ended b r cur h n e f fs d = rw d (by b e)
   where
-    by : (b e : Bool) → NotWellFormed ≡ cond (b && (e && false)) (Counts (h + headers_left r (runs (f ∷ fs))) (n + records_left r (runs (f ∷ fs)))) NotWellFormed
+    by : (b e : Bool) → Err not_well_formed ≡ cond (b && (e && false)) (with_counts (h + headers_left r (runs (f ∷ fs))) (n + records_left r (runs (f ∷ fs)))) (Err not_well_formed)
     by true true = refl
     by true false = refl
     by false e = refl

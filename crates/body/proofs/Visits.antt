@@ -7,13 +7,13 @@ use native.Mathlib.Omega.{arith}
 use lib.Dec.{eqb}
 use lib.ListN.{length, length-append}
 use borrow.Author.Tests.{eq-eqb, eqb-true}
+use Rattle.std.proofs.Common.{Some, None, Ok}
 use Rattle.words.specs.Each.{Each}
 use Rattle.fields.specs.Stored.{Stored, bytes_of, room_of}
 use Rattle.fields.specs.Step.{start, end_with_data}
 use Rattle.fields.specs.Walk.{ValueFunction, walk_by}
 use Rattle.fields.specs.declared.Cursor.{Cursor}
 use Rattle.fields.specs.declared.Field.{Field}
-use Rattle.fields.specs.declared.Walked.TheVariants.{Took, Finished}
 use Rattle.fields.proofs.Outcomes.{at_end}
 use Rattle.fields.proofs.Valued.{valued}
 use Rattle.fields.proofs.Back.{shown, walk_stored}
@@ -22,8 +22,8 @@ use Rattle.body.proofs.Division.{whole_fill}
 
 -- the walk from a cursor on: the fields that it takes, then the end
 pub data Visits (v : ValueFunction) (s : List ℕ) : Cursor → List Field → Type 0 where
-  ends : {c : Cursor} → walk_by v s c ≡ Finished → Visits v s c []
-  takes : {c d : Cursor} {f : Field} {fs : List Field} → walk_by v s c ≡ Took f d → Visits v s d fs → Visits v s c (f ∷ fs)
+  ends : {c : Cursor} → walk_by v s c ≡ Ok None → Visits v s c []
+  takes : {c d : Cursor} {f : Field} {fs : List Field} → walk_by v s c ≡ Ok (Some (f, d)) → Visits v s d fs → Visits v s c (f ∷ fs)
 
 -- the stored fields as the walk shows them, from place p on
 abbrev pub shown_from : ValueFunction → Bool → ℕ → List Stored → List Field

@@ -1,6 +1,6 @@
 -- The well-formed body (WellFormed.antt) as functions of the bytes: the fields of a body, whether it is well formed, what its HMAC covers, its counts. That `is_well_formed` holds exactly
 -- of the well-formed bodies, and the rest exactly of their fields, is shown in proofs/Decided.antt.
-use Rattle.std.specs.Prelude.{ℕ, zero, suc, ◌+◌, ◌-◌, ◌%◌, Bool, true, false, cond, not, ◌&&◌, List, [], ◌∷◌, map, leb, eqb, length, get_or, take, drop}
+use Rattle.std.specs.Prelude.{ℕ, zero, suc, ◌+◌, ◌-◌, ◌%◌, Bool, true, false, cond, not, ◌&&◌, Result, Ok, Err, List, [], ◌∷◌, map, leb, eqb, length, get_or, take, drop}
 use Rattle.words.specs.Each.{all_in}
 use Rattle.words.specs.Slices.{same}
 use Rattle.fields.specs.Stored.{Stored, room_of, fill_of}
@@ -8,8 +8,8 @@ use Rattle.fields.specs.Step.{len_at, kind_at, data_at, end_with_data}
 use Rattle.body.specs.Division.{joined}
 use Rattle.body.specs.Sections.{runs, count, covered}
 use Rattle.body.specs.WellFormed.{once_in_header, uuid_of}
-use Rattle.body.specs.declared.Judged.{Judged}
-use Rattle.body.specs.declared.Judged.TheVariants.{Counts, NotWellFormed}
+use Rattle.body.specs.declared.Counts.{Counts}
+use Rattle.body.specs.declared.NotWellFormed.{NotWellFormed}
 
 -- the field at place p of s, where its blocks are within s
 abbrev pub stored_at : List ℕ → ℕ → Stored
@@ -106,19 +106,26 @@ records_of s = length (records_in (runs (fields_of s)))
 abbrev pub covered_of : List ℕ → List ℕ
 covered_of s = covered (taken_from s 0)
 
+-- the answer with these counts, and the refusal
+abbrev pub with_counts : ℕ → ℕ → Result Counts NotWellFormed
+with_counts h r = Ok (record { headers = h; records = r })
+
+abbrev pub not_well_formed : NotWellFormed
+not_well_formed = record {}
+
 -- the counts, or none where a clause other than that on the UUIDs fails
-unfoldable pub formed_of : List ℕ → Judged
-formed_of s = cond (formed s) (Counts (headers_of s) (records_of s)) NotWellFormed
+unfoldable pub formed_of : List ℕ → Result Counts NotWellFormed
+formed_of s = cond (formed s) (with_counts (headers_of s) (records_of s)) (Err not_well_formed)
 
 -- the counts, or 9
-unfoldable pub judged_of : List ℕ → Judged
-judged_of s = cond (is_well_formed s) (Counts (headers_of s) (records_of s)) NotWellFormed
+unfoldable pub judged_of : List ℕ → Result Counts NotWellFormed
+judged_of s = cond (is_well_formed s) (with_counts (headers_of s) (records_of s)) (Err not_well_formed)
 
 -- the number of an answer, 0 where nothing is refused, and its values
-abbrev pub judge_number : Judged → ℕ
-judge_number (Counts h r) = 0
-judge_number NotWellFormed = 9
+abbrev pub judge_number : Result Counts NotWellFormed → ℕ
+judge_number (Ok c) = 0
+judge_number (Err e) = 9
 
-abbrev pub judge_values : Judged → List ℕ
-judge_values (Counts h r) = h ∷ r ∷ []
-judge_values NotWellFormed = []
+abbrev pub judge_values : Result Counts NotWellFormed → List ℕ
+judge_values (Ok c) = c.headers ∷ c.records ∷ []
+judge_values (Err e) = []

@@ -1,10 +1,10 @@
 -- What find's count says (document 02, Q-10): "the number of fields from the body's start to the deciding field, it included: the matching UUID, or the last END", and 0 with refusal 9.
-use Rattle.std.specs.Prelude.{ℕ, ◌+◌, ◌≤◌, ◌≡◌, ◌⊎◌, List, [], ◌∷◌, ◌++◌, length}
+use Rattle.std.specs.Prelude.{ℕ, ◌+◌, ◌≤◌, ◌≡◌, ◌⊎◌, Option, Some, None, Result, Ok, Err, List, [], ◌∷◌, ◌++◌, length}
 use Rattle.fields.specs.Stored.{Stored}
 use Rattle.body.specs.Sections.{count}
 use Rattle.body.specs.WellFormed.{WellFormed}
-use Rattle.body.specs.declared.Sought.{Sought}
-use Rattle.body.specs.declared.Sought.TheVariants.{At, Nowhere, NotWellFormed}
+use Rattle.body.specs.declared.NotWellFormed.{NotWellFormed}
+use Rattle.body.specs.declared.Place.{Place}
 
 -- the field f, with the fields `before` before it, is the UUID of a record: an END, at least the header's, is before it
 pub record Matches (uuid : List ℕ) (before : List Stored) (f : Stored) : Type 0 where
@@ -37,7 +37,7 @@ pub record UpTo (body uuid : List ℕ) (v : ℕ) (Is : List Stored → Stored �
   pub visited : v ≡ length before + 1
 
 -- beside each answer: the UUID of record n, before which the header and n records end; the last END; 0
-abbrev pub Visited : List ℕ → List ℕ → Sought → ℕ → Type 0
-Visited body uuid (At n p) v = UpTo body uuid v (λ before f behind. Matches uuid before f × (count 0xff before ≡ n + 1))
-Visited body uuid Nowhere v = UpTo body uuid v (λ before f behind. LastEnd f behind)
-Visited body uuid NotWellFormed v = v ≡ 0
+abbrev pub Visited : List ℕ → List ℕ → Result (Option Place) NotWellFormed → ℕ → Type 0
+Visited body uuid (Ok (Some x)) v = UpTo body uuid v (λ before f behind. Matches uuid before f × (count 0xff before ≡ x.number + 1))
+Visited body uuid (Ok None) v = UpTo body uuid v (λ before f behind. LastEnd f behind)
+Visited body uuid (Err e) v = v ≡ 0

@@ -4,102 +4,80 @@ ghost use Rattle.fields.specs.Step.{start as start_of};
 ghost use Rattle.body.specs.Find.{is_uuid, is_match};
 ghost use Rattle.body.specs.Search.{at_record, visit_of, searched_on};
 
-use super::{Found, Sought};
-use fields::{Cursor, Stepped, Value};
+use super::{Found, Place};
+use fields::{Cursor, Taken, Uuid, Value};
 
-// How far a search has come: the number of the record that it is in, the place of its first field, and how many fields were visited.
-#[derive(Clone, Copy)]
+// How far a search has come: the record that it is in, and how many fields were visited.
+#[derive(Clone, Copy, Default)]
 pub struct Progress {
-    pub number: usize,
-    pub place: usize,
+    pub at: Place,
     pub visited: usize,
 }
 
-fn at(number: usize, place: usize, visited: usize) -> Progress
-    ensures { result ≡ at_record number place visited }
+// Whether these are the 16 bytes of the UUID.
+#[tactic(auto, using(crate::proofs::UuidValue::uuid_value))]
+fn is_uuid(d: &[u8], uuid: Uuid) -> bool
+    ensures { result ≡ is_uuid d.now uuid.low uuid.high }
 {
-    Progress {
-        number: number,
-        place: place,
-        visited: visited,
-    }
+    fields::value::value_of(true, 0x01, d) == Value::Uuid(uuid)
 }
 
-// Whether these are the 16 bytes of the UUID of these halves.
-fn is_uuid(d: &[u8], low: u64, high: u64) -> bool
-    ensures { result ≡ is_uuid d.now low high }
+// Whether a field of this type with these data is the UUID, and in a record. The two apart, as `Find.antt`'s `is_match` has them.
+fn is_match(in_record: bool, kind: u8, d: &[u8], uuid: Uuid) -> bool
+    ensures { result ≡ is_match uuid.low uuid.high in_record kind d.now }
 {
-    let Value::Uuid(x, y) = fields::value::value_of(true, 0x01, d) else {
-        return false;
-    };
-    if x == low {
-        return y == high;
-    }
-    false
+    in_record && kind == 0x01 && is_uuid(d, uuid)
 }
 
-// Whether a field of this type with these data is the UUID of these halves, and in a record.
-fn is_match(in_record: bool, kind: u8, d: &[u8], low: u64, high: u64) -> bool
-    ensures { result ≡ is_match low high in_record kind d.now }
-{
-    if in_record {
-        if kind == 0x01 {
-            return is_uuid(d, low, high);
+impl Progress {
+    // One field more, which does not decide. Behind an END the next record starts.
+    fn visit(self, in_record: bool, field: Taken) -> Progress
+        requires few { self.at.number ≤ self.visited }
+        requires small { self.visited + 1 < 2 ^ 64 }
+        ensures { result ≡ visit_of self in_record field.kind field.next.place }
+    {
+        let visited = self.visited + 1;
+        if field.kind == 0xff {
+            let at = Place {
+                number: self.at.number + usize::from(in_record),
+                place: field.next.place,
+            };
+            Progress { at, visited }
+        } else {
+            Progress { visited, ..self }
         }
-        return false;
     }
-    false
-}
-
-// One field more, which does not decide; the next one starts at this place.
-fn visit(before: Progress, in_record: bool, kind: u8, next: usize) -> Progress
-    requires { (before.number ≤ before.visited) × (before.visited + 1 < 2 ^ 64) }
-    ensures { result ≡ visit_of before in_record kind next }
-{
-    let visited = before.visited + 1;
-    if kind != 0xff {
-        return at(before.number, before.place, visited);
-    }
-    if in_record {
-        return at(before.number + 1, next, visited);
-    }
-    at(before.number, next, visited)
 }
 
 // The search on from a cursor: to the count that it is handed it adds one for each field.
-fn seek_on(body: &[u8], from: Cursor, so_far: Progress, low: u64, high: u64) -> Found
-    requires { (so_far.number ≤ so_far.visited) × (so_far.visited ≤ from.place) }
-    ensures { result ≡ searched_on low high so_far from body.now }
+fn seek_on(body: &[u8], from: Cursor, so_far: Progress, uuid: Uuid) -> Found
+    requires few { so_far.at.number ≤ so_far.visited }
+    requires small { so_far.visited ≤ from.place }
+    ensures { result ≡ searched_on uuid.low uuid.high so_far from body.now }
 {
     let mut c = from;
     let mut x = so_far;
-    while c.place < body.len() {
-        let Stepped::Took(kind, len, next) = fields::step(body, c) else {
-            return Found {
-                sought: Sought::Nowhere,
-                visited: x.visited,
-            };
-        };
+    while let Ok(Some(field)) = fields::step(body, c) {
         let start = c.place + 5;
-        let end = start + len;
-        if is_match(c.in_record, kind, &body[start..end], low, high) {
+        let end = start + field.len;
+        if is_match(c.in_record, field.kind, &body[start..end], uuid) {
             return Found {
-                sought: Sought::At(x.number, x.place),
+                sought: Ok(Some(x.at)),
                 visited: x.visited + 1,
             };
         }
-        x = visit(x, c.in_record, kind, next.place);
-        c = next;
+        x = x.visit(c.in_record, field);
+        c = field.next;
     }
     Found {
-        sought: Sought::Nowhere,
+        sought: Ok(None),
         visited: x.visited,
     }
 }
 
-// The first record with the UUID of these halves, among the fields that the walk takes.
-pub fn seek(body: &[u8], low: u64, high: u64) -> Found
-    ensures { result ≡ searched_on low high (at_record 0 0 0) start_of body.now }
+// The first record with the UUID, among the fields that the walk takes.
+pub fn seek(body: &[u8], uuid: Uuid) -> Found
+    ensures { result ≡ searched_on uuid.low uuid.high (at_record 0 0 0) start_of body.now }
 {
-    seek_on(body, fields::start(), at(0, 0, 0), low, high)
+    seek_on(body, fields::start(), Progress::default(), uuid)
 }

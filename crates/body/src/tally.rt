@@ -1,168 +1,156 @@
 // What is kept of the section that a pass over a body is in, the header or a record.
-ghost use Rattle.std.specs.Prelude.{◌≡◌, ◌<◌};
+ghost use Rattle.std.specs.Prelude.{◌≡◌, ◌+◌, ◌^◌, ◌<◌};
 ghost use Rattle.words.specs.Members.{among};
-ghost use Rattle.body.specs.Tally.{once, length_fits, is_marked, with_mark, empty_section, still_fine, noted, passes, stepped, header_field, record_end};
+ghost use Rattle.body.specs.Tally.{once, length_fits, is_marked, with_mark, empty_section, noted, passes, start, tallied, finished};
 
-// Which of the types that may occur once were seen, a bit for each (13 is the highest), whether all is right so far, and whether the section has a field.
+use super::{Counts, NotWellFormed};
+use fields::Taken;
+
+// Whether it is a record or the header, which of the types that may occur once were seen, a bit for each (13 is the highest),
+// whether all is right so far, and whether it has a field.
+// A fault is told at the end: `sections_of` (specs/Tally.antt) is one test of all sections, and so is what a turn keeps.
 #[derive(Clone, Copy)]
 pub struct Section {
+    pub in_record: bool,
     pub seen: u32,
     pub fine: bool,
     pub used: bool,
 }
 
-pub fn empty(fine: bool) -> Section
-    ensures { result ≡ empty_section fine }
-{
-    Section {
-        seen: 0,
-        fine: fine,
-        used: false,
-    }
+// The section that a pass is in, and what it has counted.
+#[derive(Clone, Copy)]
+pub struct Tally {
+    pub section: Section,
+    pub counts: Counts,
 }
 
 fn is_marked(seen: u32, kind: u8) -> bool
     requires { kind < 20 }
     ensures { result ≡ is_marked seen kind }
 {
-    (seen >> (kind as u32)) % 2 == 1
+    (seen >> kind) % 2 == 1
 }
 
 fn with_mark(seen: u32, kind: u8) -> u32
     requires { kind < 20 }
     ensures { result ≡ with_mark seen kind }
 {
-    seen | (1u32 << (kind as u32))
+    seen | 1 << kind
 }
 
-// Whether a type may occur only once in the header, or in a record.
-fn only_once(in_record: bool, kind: u8) -> bool
-    ensures { result ≡ among kind (once in_record) }
-{
-    if in_record {
-        if kind == 0x01 {
-            return true;
+impl Section {
+    fn empty(in_record: bool, fine: bool) -> Section
+        ensures { result ≡ empty_section in_record fine }
+    {
+        Section {
+            in_record,
+            seen: 0,
+            fine,
+            used: false,
         }
-        if kind == 0x03 {
-            return true;
-        }
-        return kind == 0x06;
     }
-    if kind < 0x0c {
-        return true;
-    }
-    if kind == 0x0f {
-        return true;
-    }
-    if kind == 0x10 {
-        return true;
-    }
-    kind == 0x13
-}
 
-fn length_fits(in_record: bool, kind: u8, len: usize) -> bool
-    ensures { result ≡ length_fits in_record kind len }
-{
-    if in_record {
-        if kind == 0x01 {
-            return len == 16;
+    // Whether a type may occur only once.
+    #[tactic(auto, using(crate::proofs::OnceTypes::header_once, crate::proofs::OnceTypes::record_once))]
+    fn only_once(self, kind: u8) -> bool
+        ensures { result ≡ among kind (once self.in_record) }
+    {
+        if self.in_record {
+            matches!(kind, 0x01 | 0x03 | 0x06)
+        } else {
+            matches!(kind, 0x00..=0x0b | 0x0f | 0x10 | 0x13)
         }
-        if kind == 0x03 {
-            return 1 <= len;
-        }
-        if kind == 0x06 {
-            return 1 <= len;
-        }
-        return true;
     }
-    true
-}
 
-fn still_fine(x: Section, in_record: bool, kind: u8, len: usize) -> bool
-    ensures { result ≡ still_fine x in_record kind len }
-{
-    if x.fine {
-        if length_fits(in_record, kind, len) {
-            if only_once(in_record, kind) {
-                return !is_marked(x.seen, kind);
+    // Whether a record's UUID has 16 bytes, and its Title and Password are not empty.
+    #[tactic(auto, unfolding(crate::specs::Tally::length_fits))]
+    fn length_fits(self, field: Taken) -> bool
+        ensures { result ≡ length_fits self.in_record field.kind field.len }
+    {
+        match (self.in_record, field.kind) {
+            (true, 0x01) => field.len == 16,
+            (true, 0x03 | 0x06) => 1 <= field.len,
+            _ => true,
+        }
+    }
+
+    // The section with one field more.
+    #[tactic(auto, using(crate::proofs::Sums::small))]
+    fn noted(self, field: Taken) -> Section
+        ensures { result ≡ noted self field.kind field.len }
+    {
+        let fine = self.fine && self.length_fits(field);
+        if self.only_once(field.kind) {
+            Section {
+                seen: with_mark(self.seen, field.kind),
+                fine: fine && !is_marked(self.seen, field.kind),
+                used: true,
+                ..self
             }
-            return true;
-        }
-        return false;
-    }
-    false
-}
-
-// The section with one field more.
-fn note(x: Section, in_record: bool, kind: u8, len: usize) -> Section
-    ensures { result ≡ noted x in_record kind len }
-{
-    let fine = still_fine(x, in_record, kind, len);
-    if only_once(in_record, kind) {
-        return Section {
-            seen: with_mark(x.seen, kind),
-            fine: fine,
-            used: true,
-        };
-    }
-    Section {
-        seen: x.seen,
-        fine: fine,
-        used: true,
-    }
-}
-
-// Whether the section may end here.
-fn may_end(x: Section, in_record: bool) -> bool
-    ensures { result ≡ passes x in_record }
-{
-    if x.fine {
-        if in_record {
-            if is_marked(x.seen, 1) {
-                if is_marked(x.seen, 3) {
-                    return is_marked(x.seen, 6);
-                }
-                return false;
+        } else {
+            Section {
+                fine,
+                used: true,
+                ..self
             }
-            return false;
         }
-        return true;
     }
-    false
+
+    // Whether the section may end here.
+    fn may_end(self) -> bool
+        ensures { result ≡ passes self }
+    {
+        self.fine
+            && (!self.in_record
+                || is_marked(self.seen, 1) && is_marked(self.seen, 3) && is_marked(self.seen, 6))
+    }
 }
 
-// The section after a field; an END ends it.
-pub fn step(x: Section, in_record: bool, kind: u8, len: usize) -> Section
-    ensures { result ≡ stepped x in_record kind len }
-{
-    if kind == 0xff {
-        return empty(may_end(x, in_record));
-    }
-    note(x, in_record, kind, len)
-}
-
-// 1 for a header field.
-pub fn header_field(in_record: bool, kind: u8) -> usize
-    ensures { result ≡ header_field in_record kind }
-{
-    if in_record {
-        return 0;
-    }
-    if kind == 0xff {
-        return 0;
-    }
-    1
-}
-
-// 1 for the END of a record.
-pub fn record_end(in_record: bool, kind: u8) -> usize
-    ensures { result ≡ record_end in_record kind }
-{
-    if in_record {
-        if kind == 0xff {
-            return 1;
+impl Tally {
+    pub fn start() -> Tally
+        ensures { result ≡ start }
+    {
+        Tally {
+            section: Section::empty(false, true),
+            counts: Counts::default(),
         }
-        return 0;
     }
-    0
+
+    // One field more. An END ends the section, and a record follows; the END of a record counts it, and any other field of the header counts.
+    pub fn after(self, field: Taken) -> Tally
+        requires headers { self.counts.headers + 1 < 2 ^ 64 }
+        requires records { self.counts.records + 1 < 2 ^ 64 }
+        ensures { result ≡ tallied self field.kind field.len }
+    {
+        let Tally { section, counts } = self;
+        if field.kind == 0xff {
+            Tally {
+                section: Section::empty(true, section.may_end()),
+                counts: Counts {
+                    records: counts.records + usize::from(section.in_record),
+                    ..counts
+                },
+            }
+        } else {
+            Tally {
+                section: section.noted(field),
+                counts: Counts {
+                    headers: counts.headers + usize::from(!section.in_record),
+                    ..counts
+                },
+            }
+        }
+    }
+
+    // The counts, where all is right and nothing follows the last END.
+    pub fn finish(self) -> Result<Counts, NotWellFormed>
+        ensures { result ≡ finished self }
+    {
+        let Tally { section, counts } = self;
+        if section.in_record && section.fine && !section.used {
+            Ok(counts)
+        } else {
+            Err(NotWellFormed)
+        }
+    }
 }

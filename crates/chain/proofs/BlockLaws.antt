@@ -1,15 +1,13 @@
 -- A mode on four words is the mode on their 16 bytes, over any cipher on four words: the bytes of an exclusive or are the exclusive ors of the bytes.
--- And the block of a part of a memory, word by word.
-use Rattle.std.proofs.Common.{◌≡◌, ℕ, ◌+◌, ◌<◌, ◌≤◌, List, [], ◌∷◌, ◌++◌, length, take, drop, sym, refl, ap, ◌∙◌, ap₂, add-zero, arith, get_or-drop, get_or-take}
+use Rattle.std.proofs.Common.{◌≡◌, ℕ, List, ◌++◌, length, sym, refl, ap, ◌∙◌, ap₂}
 use lib.Bits.{xor_lt}
-use Rattle.words.specs.Numbers.{number_low, bytes_low, Sized}
-use Rattle.words.specs.Table.{at}
+use Rattle.words.specs.Numbers.{bytes_low, Sized}
 use Rattle.words.specs.Xor.{xored}
 use Rattle.words.proofs.NumberLaws.{bytes_sized}
 use Rattle.words.proofs.XorLaws.{xored_append, bytes_xor}
-use Rattle.twofish.specs.Twofish.{word_at, block_of, block_bytes}
+use Rattle.twofish.specs.Twofish.{block_of, block_bytes}
 use Rattle.twofish.specs.declared.Block.{Block}
-use Rattle.twofish.proofs.Rounds.{Words, blocks}
+use Rattle.twofish.proofs.Rounds.{Words}
 use Rattle.twofish.proofs.Inverse.{block_words, bytes_block, block_bytes_lem}
 use Rattle.chain.specs.Blocks.{xor_block, chained, on_bytes, mode_e, mode_d}
 use Rattle.chain.specs.declared.Mode.{Mode}
@@ -56,21 +54,3 @@ module _ (F : Block → Block) where
   unfolding chained mode_d on_bytes
   words_d Ecb b p = refl
   words_d Cbc b p = xor_bytes (F (block_of b)) p
-
--- a word of a part, and the block of its words
-part_word : (l : List ℕ) (i j : ℕ) → j + 4 ≤ 16 → word_at (take 16 (drop i l)) j ≡ word_at l (i + j)
-part_word l i j h =
-    λ t. number_low (byte j (omega arith) t ∷ next 1 (omega arith) t ∷ next 2 (omega arith) t ∷ next 3 (omega arith) t ∷ [])
-  where
-    byte : (k : ℕ) → k < 16 → at (take 16 (drop i l)) k ≡ at l (i + k)
-    byte k p = get_or-take 16 (drop i l) k 0 p ∙ get_or-drop i l k 0
-
-    next : (k : ℕ) → j + k < 16 → at (take 16 (drop i l)) (j + k) ≡ at l (i + j + k)
-    next k p = let e : i + (j + k) ≡ i + j + k = omega arith in byte (j + k) p ∙ ap (at l) e
-
-pub words_of : (l : List ℕ) (i : ℕ) {a b c d : ℕ} → a ≡ word_at l i → b ≡ word_at l (i + 4) → c ≡ word_at l (i + 8) → d ≡ word_at l (i + 12)
-    → record { a = a; b = b; c = c; d = d } ≡ block_of (take 16 (drop i l))
-unfolding block_of
-words_of l i ea eb ec ed =
-    blocks (ea ∙ ap (word_at l) (sym (add-zero i)) ∙ sym (part_word l i 0 (omega arith))) (eb ∙ sym (part_word l i 4 (omega arith)))
-    (ec ∙ sym (part_word l i 8 (omega arith))) (ed ∙ sym (part_word l i 12 (omega arith)))

@@ -1,7 +1,5 @@
 -- A part of a memory, lent and stored over: the memory is cut before it and after it, and both cuts are found again.
 use Rattle.std.proofs.Common.{◌≡◌, ℕ, ◌+◌, ◌-◌, ◌≤◌, List, ◌++◌, length, take, drop, sym, refl, ap, ◌∙◌, ap₂, append_assoc, arith, length-append, length-drop, length-take, take_all, drop-drop, take_at, drop_at}
-use Rattle.words.specs.Slices.{copied}
-use Rattle.words.proofs.SliceLaws.{copied_over}
 
 -- the s bytes from i on, as the code lends them, and the memory with v in their place
 abbrev pub part : List ℕ → ℕ → ℕ → List ℕ
@@ -41,18 +39,15 @@ module _ (l : List ℕ) (i s j : ℕ) (v : List ℕ) (next : i + s ≡ j) (fits 
 
 -- three blocks stored one after the other fill 48 bytes
 pub three_stored : (l x y z : List ℕ) {u v w : List ℕ} → length l ≡ 48 → length x ≡ 16 → length y ≡ 16 → length z ≡ 16
-    → u ≡ copied (part l 0 16) x → v ≡ copied (part (around l 0 16 u) 16 16) y → w ≡ copied (part (around (around l 0 16 u) 16 16 v) 32 16) z
+    → u ≡ x → v ≡ y → w ≡ z
     → around (around (around l 0 16 u) 16 16 v) 32 16 w ≡ x ++ (y ++ z)
-three_stored l x y z {u} {v} {w} hl hx hy hz eu ev ew =
+three_stored l x y z {u} {v} {w} hl hx hy hz pu pv pw =
     let l1 = around l 0 16 u in
     let l2 = around l1 16 16 v in
-    let pu : u ≡ x = eu ∙ copied_over (part l 0 16) x (part_long l 0 16 (omega arith) ∙ sym hx) in
     let hu : length u ≡ 16 = ap length pu ∙ hx in
     let h1 : length l1 ≡ 48 = around_length l 0 16 16 u refl (omega arith) hu ∙ hl in
-    let pv : v ≡ y = ev ∙ copied_over (part l1 16 16) y (part_long l1 16 16 (omega arith) ∙ sym hy) in
     let hv : length v ≡ 16 = ap length pv ∙ hy in
     let h2 : length l2 ≡ 48 = around_length l1 16 16 32 v refl (omega arith) hv ∙ h1 in
-    let pw : w ≡ z = ew ∙ copied_over (part l2 32 16) z (part_long l2 32 16 (omega arith) ∙ sym hz) in
     let hw : length w ≡ 16 = ap length pw ∙ hz in
     let h3 = around_length l2 32 16 48 w refl (omega arith) hw ∙ h2 in
     sym (take_all 48 (around l2 32 16 w) (omega (arith, h3)))

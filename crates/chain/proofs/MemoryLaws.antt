@@ -1,7 +1,6 @@
 -- What the calls leave in a memory of n whole blocks: the n blocks encrypted or decrypted, and the count n past that of the earlier stage.
-use Rattle.std.proofs.Common.{◌≡◌, ℕ, ◌+◌, ◌*◌, ◌/◌, ◌%◌, ◌^◌, ◌<◌, ◌≤◌, Bool, true, false, cond, leb, List, [], ◌++◌, length, take, drop, sym, refl, ap, ◌∙◌, ap₂, append-nil, arith, drop_of_length-le, take_all, take_at, drop_at, eq-eqb, ne_eqb, le-leb}
+use Rattle.std.proofs.Common.{◌≡◌, ℕ, ◌+◌, ◌*◌, ◌/◌, ◌%◌, ◌^◌, ◌<◌, ◌≤◌, Bool, true, false, cond, leb, List, [], ◌++◌, length, take, drop, sym, refl, ap, ◌∙◌, ap₂, append-nil, arith, drop_of_length-le, take_at, drop_at, eq-eqb, ne_eqb, le-leb}
 use borrow.Author.Tests.{lt-leb}
-use Rattle.words.specs.Slices.{copied}
 use Rattle.chain.specs.Modes.{encrypted, decrypted}
 use Rattle.chain.specs.Decryption.{decryption, run}
 use Rattle.chain.specs.Memory.{whole_blocks, encrypted_in_place, encrypted_into, decrypted_in_place, Handed}
@@ -25,16 +24,13 @@ blocks_none l h = rw (ne_eqb (length l % 16) 0 h) refl
 over : (n : ℕ) (l : List ℕ) → length l ≡ 16 * n → drop (16 * n) l ≡ []
 over n l h = drop_of_length-le l {i = 16 * n} (omega arith)
 
--- l copied over the start of a memory
-module _ (l to : List ℕ) {t : List ℕ} (h : length l ≤ length to) (q : t ≡ copied to l) where
-  joined : t ≡ l ++ drop (length l) to
-  joined = q ∙ ap (λ (x : List ℕ). x ++ drop (length l) to) (take_all (length to) l h)
+-- l stored over the start of a memory
+module _ (l to : List ℕ) {t : List ℕ} (q : t ≡ l ++ drop (length l) to) where
+  front : take (length l) t ≡ l
+  front = ap (take (length l)) q ∙ take_at l (drop (length l) to) (length l) refl
 
-  pub copy_front : take (length l) t ≡ l
-  copy_front = ap (take (length l)) joined ∙ take_at l (drop (length l) to) (length l) refl
-
-  copy_back : drop (length l) t ≡ drop (length l) to
-  copy_back = ap (drop (length l)) joined ∙ drop_at l (drop (length l) to) (length l) refl
+  back : drop (length l) t ≡ drop (length l) to
+  back = ap (drop (length l)) q ∙ drop_at l (drop (length l) to) (length l) refl
 
 module _ (e : List ℕ → List ℕ → List ℕ) where
   pub encrypted_whole : (n : ℕ) (p l : List ℕ) → length l ≡ 16 * n → encrypted_in_place e p l ≡ encrypted e n p l
@@ -66,12 +62,12 @@ module _ (e : List ℕ → List ℕ → List ℕ) where
   unfolding encrypted_into
   too_short p l to h = rw (lt-leb (length l) (length to) h) refl
 
-  pub all_into : (p l to : List ℕ) {t v : List ℕ} → length l % 16 ≡ 0 → length l ≤ length to → t ≡ copied to l
+  pub all_into : (p l to : List ℕ) {t v : List ℕ} → length l % 16 ≡ 0 → length l ≤ length to → t ≡ l ++ drop (length l) to
       → v ≡ encrypted_in_place e p (take (length l) t) → v ++ drop (length l) t ≡ encrypted_into e p l to
   all_into p l to m h q g =
       let n = length l / 16 in
       let k : length l ≡ 16 * n = omega arith in
-      ap₂ ◌++◌ (g ∙ ap (encrypted_in_place e p) (copy_front l to h q) ∙ encrypted_whole n p l k) (copy_back l to h q ∙ ap (λ (i : ℕ). drop i to) k)
+      ap₂ ◌++◌ (g ∙ ap (encrypted_in_place e p) (front l to q) ∙ encrypted_whole n p l k) (back l to q ∙ ap (λ (i : ℕ). drop i to) k)
       ∙ sym (encrypted_into_lem n p l to k h)
 
 module _ (d : List ℕ → List ℕ → List ℕ) where

@@ -3,7 +3,7 @@
 use Rattle.std.proofs.Common.{◌≡◌, ℕ, suc, ◌+◌, ◌-◌, ◌*◌, ◌/◌, ◌%◌, ◌^◌, ◌≤◌, List, ◌++◌, length, take, drop, sym, refl, ap, ◌∙◌, subst, ap₂, append_assoc, append-nil, arith, length-append, length-drop, take-append-drop, drop_of_length-le, length-take, take_all, drop-drop}
 use Rattle.words.specs.Numbers.{Bytes, Sized}
 use Rattle.words.proofs.ByteLaws.{bytes_take, bytes_drop}
-use Rattle.words.proofs.SliceLaws.{copied_over, part_of}
+use Rattle.words.proofs.SliceLaws.{part_of}
 use Rattle.twofish.specs.Twofish.{block_of, block_bytes}
 use Rattle.twofish.specs.declared.Block.{Block}
 use Rattle.twofish.specs.declared.Three.{Three}
@@ -163,8 +163,7 @@ module _ (mode : Mode) (F : Block → Block) (n : ℕ) (first l : List ℕ) wher
         ∙ ap (λ (z : List ℕ). block_bytes (F (chained mode prev (block_of z)))) b
         ∙ words_e F mode (take 16 (drop i l)) prev h o.words
         in
-        let stored : v ≡ block_bytes q = u.memory ∙ copied_over (part w i 16) (block_bytes q) (ap length b ∙ h.long ∙ sym (block_bytes_sized q).long) in
-        subst (λ (x : List ℕ). Encrypting m j (around w i 16 x) q) (sym stored)
+        subst (λ (x : List ℕ). Encrypting m j (around w i 16 x) q) (sym u.memory)
         (turned_next f f n first l o 16 j m (block_bytes q) q e k (block_bytes_sized q).long hq
         (ap (λ (x : ℕ). through f f x (block_bytes prev) (drop i l)) c ∙ ap₂ (λ (y r : List ℕ). y ++ through f f m y r) (sym made) (rest l i 16 e)))
 
@@ -181,8 +180,7 @@ module _ (mode : Mode) (F : Block → Block) (n : ℕ) (first l : List ℕ) wher
         ap (λ (z : Block). block_bytes (chained mode prev (F z))) read ∙ words_d F mode (take 16 (drop i l)) prev
         in
         let same : block_bytes q ≡ take 16 (drop i l) = ap block_bytes read ∙ bytes_block (take 16 (drop i l)) h in
-        let stored : v ≡ y = u.memory ∙ copied_over (part w i 16) y (ap length b ∙ h.long ∙ sym hy) in
-        subst (λ (x : List ℕ). Decrypting m j (around w i 16 x) q) (sym stored)
+        subst (λ (x : List ℕ). Decrypting m j (around w i 16 x) q) (sym u.memory)
         (turned_next f taken n first l o 16 j m y q e k hy (subst Words (sym read) (block_words (take 16 (drop i l)) h.bytes))
         (ap (λ (x : ℕ). through f taken x (block_bytes prev) (drop i l)) c
         ∙ ap₂ (λ (x r : List ℕ). x ++ through f taken m (take 16 (drop i l)) r) (sym made) (rest l i 16 e)

@@ -1,11 +1,13 @@
 -- Twofish meets the laws of a block cipher, by its two inverses; so ECB and CBC over it undo themselves with nothing left to assume.
--- And it is what the code's functions on four words do, with the lists that a key makes.
-use Rattle.std.proofs.Common.{◌≡◌, ℕ, ◌*◌, List, length, ap, ◌∙◌}
-use Rattle.words.specs.Numbers.{Bytes, Sized}
-use Rattle.twofish.specs.Tabled.{tabled_encrypt, tabled_decrypt}
+-- And it is what the code's functions on four words do, with what a key makes.
+use Rattle.std.proofs.Common.{◌≡◌, ℕ, ◌*◌, ◌<◌, List, length, get_or, ap, ◌∙◌}
+use Rattle.words.specs.Numbers.{Sized}
+use Rattle.words.proofs.ByteLaws.{bytes_of}
+use Rattle.twofish.specs.Tabled.{schedule_of, tabled_encrypt, tabled_decrypt}
 use Rattle.twofish.specs.Twofish.{block_of, block_bytes, encrypt_block, decrypt_block}
 use Rattle.twofish.specs.declared.Block.{Block}
-use Rattle.twofish.proofs.Keyed.{Made, encrypts, decrypts}
+use Rattle.twofish.specs.declared.Schedule.{Schedule}
+use Rattle.twofish.proofs.Keyed.{encrypts, decrypts}
 use Rattle.twofish.proofs.Inverse.{bytes_block, encrypt_block_sized, decrypt_block_sized, decrypt_encrypt_block, encrypt_decrypt_block}
 use Rattle.chain.specs.Cipher.{CipherLaws}
 use Rattle.chain.specs.Modes.{ecb_e, ecb_d, cbc_e, cbc_d, encrypted, decrypted}
@@ -42,15 +44,15 @@ module _ (k : List ℕ) (hk : Sized 32 k) where
     pub cbc_again : encrypted (cbc_e twofish_cipher k) n p (decrypted (cbc_d twofish_cipher k) n p l) ≡ l
     cbc_again = encrypted_decrypted _ _ twofish_cbc n p l hp hl
 
-module _ (key : List ℕ) {t0 t1 s k g0 g1 g2 g3 : List ℕ} (o : Made key t0 t1 s k g0 g1 g2 g3) where
-  pub tabled_enc : on_bytes (tabled_encrypt g0 g1 g2 g3 k) ≡ encrypt_block key
+module _ (key : List ℕ) {s : Schedule} (e : s ≡ schedule_of key) where
+  pub tabled_enc : on_bytes (tabled_encrypt s) ≡ encrypt_block key
   unfolding on_bytes encrypt_block
-  tabled_enc = ap on_bytes (encrypts key o)
+  tabled_enc = ap on_bytes (encrypts key e)
 
-  pub tabled_dec : on_bytes (tabled_decrypt g0 g1 g2 g3 k) ≡ decrypt_block key
+  pub tabled_dec : on_bytes (tabled_decrypt s) ≡ decrypt_block key
   unfolding on_bytes decrypt_block
-  tabled_dec = ap on_bytes (decrypts key o)
+  tabled_dec = ap on_bytes (decrypts key e)
 
 -- the block that the first one is chained to has the bytes of the initial vector
-pub iv_bytes : (iv : List ℕ) {r : Block} → length iv ≡ 16 → (r ≡ block_of iv) × Bytes iv → block_bytes r ≡ iv
-iv_bytes iv h e = ap block_bytes e.0 ∙ bytes_block iv (record { long = h; bytes = e.1 })
+pub iv_bytes : (iv : List ℕ) {r : Block} → length iv ≡ 16 → ((i : ℕ) → get_or iv i 0 < 256) → r ≡ block_of iv → block_bytes r ≡ iv
+iv_bytes iv h f e = ap block_bytes e ∙ bytes_block iv (record { long = h; bytes = bytes_of iv f })

@@ -1,6 +1,5 @@
 -- How the code applies a mode: on blocks of four words, in lent memory.
 use Rattle.std.specs.Prelude.{◌≡◌, ℕ, ◌*◌, ◌/◌, List, ◌++◌, length, take, drop, bit_xor}
-use Rattle.words.specs.Slices.{copied}
 use Rattle.words.specs.Xor.{xored}
 use Rattle.twofish.specs.Twofish.{block_of, block_bytes}
 use Rattle.twofish.specs.declared.Block.{Block}
@@ -18,14 +17,14 @@ unfoldable pub chained : Mode → Block → Block → Block
 chained Ecb prev x = x
 chained Cbc prev x = xor_block x prev
 
--- a block of lent memory before and after, and the cipher block r that is handed on to the next
+-- 16 bytes of lent memory before and after, and the cipher block r that is handed on to the next
 pub record EncryptedBlock (mode : Mode) (E : Block → Block) (prev : Block) (before after : List ℕ) (r : Block) : Type 0 where
   pub block : r ≡ E (chained mode prev (block_of before))
-  pub memory : after ≡ copied before (block_bytes r)
+  pub memory : after ≡ block_bytes r
 
 pub record DecryptedBlock (mode : Mode) (D : Block → Block) (prev : Block) (before after : List ℕ) (r : Block) : Type 0 where
   pub block : r ≡ block_of before
-  pub memory : after ≡ copied before (block_bytes (chained mode prev (D r)))
+  pub memory : after ≡ block_bytes (chained mode prev (D r))
 
 -- three blocks of 48 bytes, and back
 unfoldable pub three_of : List ℕ → Three

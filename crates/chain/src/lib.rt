@@ -13,25 +13,34 @@ ghost use Rattle.chain.specs.Modes.{ecb_e, ecb_d, cbc_e, cbc_d};
 ghost use Rattle.chain.specs.Memory.{encrypted_in_place, encrypted_into, decrypted_in_place, Handed};
 ghost use Rattle.chain.specs.Twofish.{twofish_cipher};
 
+use twofish::Schedule;
+
+// Which of the two decides in `chained` alone: a trait of modes would have that one method twice, and a type parameter at every
+// function here.
 #[derive(Clone, Copy)]
 enum Mode {
     Ecb,
     Cbc,
 }
 
+// A mode, over what a key makes.
+#[derive(Clone, Copy)]
+struct Chaining<'a> {
+    mode: Mode,
+    schedule: &'a Schedule,
+}
+
 pub fn ecb_encrypt(key: &[u8; 32], work: &mut [u8])
     ensures { work.new ≡ encrypted_in_place (ecb_e twofish_cipher key.now) (zeros 16) work.old }
 {
-    let none = [0u8; 16];
-    memory::encrypt(Mode::Ecb, key, &none, work);
+    memory::encrypt(Mode::Ecb, key, &[0; 16], work);
 }
 
 // The count goes on from `count`, one more at each block.
 pub fn ecb_decrypt(key: &[u8; 32], work: &mut [u8], count: u64) -> u64
     ensures { Handed (decrypted_in_place (ecb_d twofish_cipher key.now) (zeros 16) work.old count) work.new result }
 {
-    let none = [0u8; 16];
-    memory::decrypt(Mode::Ecb, key, &none, work, count)
+    memory::decrypt(Mode::Ecb, key, &[0; 16], work, count)
 }
 
 pub fn cbc_decrypt(key: &[u8; 32], iv: &[u8; 16], work: &mut [u8], count: u64) -> u64
@@ -44,13 +53,10 @@ pub fn cbc_decrypt(key: &[u8; 32], iv: &[u8; 16], work: &mut [u8], count: u64) -
 pub fn cbc_encrypt(key: &[u8; 32], iv: &[u8; 16], from: &[u8], to: &mut [u8])
     ensures { to.new ≡ encrypted_into (cbc_e twofish_cipher key.now) iv.now from.now to.old }
 {
-    if from.len() % 16 != 0 {
-        return;
-    }
-    if to.len() < from.len() {
-        return;
-    }
-    words::slices::copy(to, from);
     let n = from.len();
+    if n % 16 != 0 || to.len() < n {
+        return;
+    }
+    to[..n].copy_from_slice(from);
     memory::encrypt(Mode::Cbc, key, iv, &mut to[..n]);
 }

@@ -1,25 +1,24 @@
 -- The walk at the place of a stored field gives that field back, and so at the place of an append: the field's own bytes say its length, its type and its data.
 use Prim.Native.Nat.{ℕ, ◌+◌, ◌-◌, ◌%◌, ◌^◌, ◌≤◌, ◌<◌}
 use mathlib.Core.Path.{◌≡◌, refl, sym, ap, ◌∙◌}
-use mathlib.Core.Bool.{Bool, true, false, cond, not, ◌||◌}
+use mathlib.Core.Bool.{Bool, false, ◌||◌}
 use mathlib.Core.List.{List, [], ◌∷◌, ◌++◌, append_assoc}
 use native.Mathlib.Nat.{mod-eq_of_lt}
 use native.Mathlib.Omega.{arith}
-use lib.Dec.{eqb, ltb}
+use lib.Dec.{eqb}
 use lib.ListN.{length, take, drop, length-append}
 use lib.Seq.{length-take-le, drop_at, drop-drop, get_or-drop, get_or_at, take_at}
-use borrow.Author.Tests.{eqb-true, ltb-false, not-false}
+use Rattle.std.proofs.Common.{Some, Ok}
 use Rattle.words.specs.Numbers.{bytes_low}
 use Rattle.words.proofs.NumberLaws.{number_bytes, bytes_sized}
 use Rattle.fields.specs.Stored.{Stored, bytes_of, room_of, fill_of}
-use Rattle.fields.specs.Step.{len_at, kind_at, data_at, end_with_data, misplaced}
+use Rattle.fields.specs.Step.{len_at, kind_at, data_at, end_with_data}
 use Rattle.fields.specs.Walk.{ValueFunction, walk_by}
-use Rattle.fields.specs.Append.{bad_fill, no_room, append_of, buffer_after}
+use Rattle.fields.specs.Append.{append_of, buffer_after}
 use Rattle.fields.specs.declared.Cursor.{Cursor}
 use Rattle.fields.specs.declared.Field.{Field}
-use Rattle.fields.specs.declared.Walked.TheVariants.{Took}
-use Rattle.fields.specs.declared.store.Appended.TheVariants.{Next, Misplaced, EndWithData, BadFill, NoRoom}
-use Rattle.fields.proofs.Outcomes.{neither, took}
+use Rattle.std.proofs.lemmas.Bool.Decides.{nat_tests}
+use Rattle.fields.proofs.Outcomes.{took}
 use Rattle.fields.proofs.Valued.{valued}
 
 pub bytes_long : (f : Stored) → length (bytes_of f) ≡ 5 + length f.content + length f.fill
@@ -68,7 +67,7 @@ past r p f = record { place = p + room_of (length f.content); in_record = r || e
 
 pub walk_stored : (v : ValueFunction) (a : List ℕ) (f : Stored) (z : List ℕ) (r : Bool) → length a % 16 ≡ 0 → length f.content < 2 ^ 32
     → length f.fill ≡ fill_of (length f.content) → end_with_data f.kind (length f.content) ≡ false
-    → walk_by v (a ++ (bytes_of f ++ z)) (record { place = length a; in_record = r }) ≡ Took (shown v r (length a) f) (past r (length a) f)
+    → walk_by v (a ++ (bytes_of f ++ z)) (record { place = length a; in_record = r }) ≡ Ok (Some (shown v r (length a) f, past r (length a) f))
 walk_stored v a f z r al h g e =
     let s = a ++ (bytes_of f ++ z) in
     let n : length s ≡ length a + room_of (length f.content) + length z = simp (length-append, (bytes_sized 4 (length f.content)).long) (omega arith) in
@@ -89,40 +88,19 @@ pub record Accepted (b : List ℕ) (p : ℕ) (f : Stored) (q : ℕ) : Type 0 whe
   pub inside : q ≤ length b
   pub limit : q ≤ 4194096
 
-by_tests : (m e u n : Bool) (x q : ℕ) → cond m Misplaced (cond e EndWithData (cond u BadFill (cond n NoRoom (Next x)))) ≡ Next q
-    → (m ≡ false) × (e ≡ false) × (u ≡ false) × (n ≡ false) × (x ≡ q)
-by_tests true e u n x q h = absurd (let z : ◌≡◌ {A = ℕ} 0 1 = cc in omega arith)
-by_tests false true u n x q h = absurd (let z : ◌≡◌ {A = ℕ} 0 1 = cc in omega arith)
-by_tests false false true n x q h = absurd (let z : ◌≡◌ {A = ℕ} 0 1 = cc in omega arith)
-by_tests false false false true x q h = absurd (let z : ◌≡◌ {A = ℕ} 0 1 = cc in omega arith)
-by_tests false false false false x q h = (refl, refl, refl, refl, cc)
-
-pub accepted : (b : List ℕ) (p : ℕ) (f : Stored) (q : ℕ) → append_of b p f ≡ Next q → Accepted b p f q
+pub accepted : (b : List ℕ) (p : ℕ) (f : Stored) (q : ℕ) → append_of b p f ≡ Ok q → Accepted b p f q
 unfolding append_of
-accepted b p f q h =
-    let end = p + room_of (length f.content) in
-    let t = by_tests (misplaced b p) (end_with_data f.kind (length f.content)) (bad_fill f) (no_room b end) end q h in
-    let m = neither (not (eqb (p % 16) 0)) (ltb (length b) p) t.0 in
-    let n = neither (ltb (length b) end) (ltb 4194096 end) t.3 in
-    record {
-      aligned = eqb-true _ _ (not-false _ m.0);
-      within = ltb-false (length b) p m.1;
-      no_data = t.1;
-      filled = eqb-true _ _ (not-false _ t.2);
-      next = sym t.4;
-      inside = omega (arith, t.4, ltb-false (length b) end n.0);
-      limit = omega (arith, t.4, ltb-false 4194096 end n.1);
-    }
+accepted b p f q h = grind (arith, nat_tests)
 
 -- What append wrote is what the walk hands back: type, length and value, and the next place.
-pub walks_back : (v : ValueFunction) (b : List ℕ) (p : ℕ) (f : Stored) (q : ℕ) (r : Bool) → append_of b p f ≡ Next q
-    → walk_by v (buffer_after (Next q) b p f) (record { place = p; in_record = r })
-    ≡ Took (shown v r p f) (record { place = q; in_record = r || eqb f.kind 0xff })
+pub walks_back : (v : ValueFunction) (b : List ℕ) (p : ℕ) (f : Stored) (q : ℕ) (r : Bool) → append_of b p f ≡ Ok q
+    → walk_by v (buffer_after (Ok q) b p f) (record { place = p; in_record = r })
+    ≡ Ok (Some (shown v r p f, record { place = q; in_record = r || eqb f.kind 0xff }))
 walks_back v b p f q r h =
     let t = accepted b p f q h in
     let l : length (take p b) ≡ p = length-take-le p b t.within in
     let w = walk_stored v (take p b) f (drop q b) r (ap (λ (n : ℕ). n % 16) l ∙ t.aligned) (omega (arith, t.next, t.limit)) t.filled t.no_data in
-    ap (λ (n : ℕ). walk_by v (buffer_after (Next q) b p f) (record { place = n; in_record = r })) (sym l)
+    ap (λ (n : ℕ). walk_by v (buffer_after (Ok q) b p f) (record { place = n; in_record = r })) (sym l)
     ∙ w
-    ∙ ap (λ (n : ℕ). Took (shown v r n f) (past r n f)) l
-    ∙ ap (λ (n : ℕ). Took (shown v r p f) (record { place = n; in_record = r || eqb f.kind 0xff })) (sym t.next)
+    ∙ ap (λ (n : ℕ). Ok (Some (shown v r n f, past r n f))) l
+    ∙ ap (λ (n : ℕ). Ok (Some (shown v r p f, record { place = n; in_record = r || eqb f.kind 0xff }))) (sym t.next)

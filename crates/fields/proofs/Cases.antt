@@ -8,14 +8,15 @@ use Rattle.words.specs.Hex.{hex_value, all_digits, hex_number}
 use Rattle.words.specs.Members.{to}
 use Rattle.words.specs.Numbers.{number_low, bytes_low}
 use Rattle.text.specs.Decision.{ends_whole, greatest, goes_wrong_of}
+use Rattle.std.proofs.Common.{None, Some, Ok, Err}
 use Rattle.fields.specs.Stored.{stored}
 use Rattle.fields.specs.Value.{header_shape, record_shape, value_of}
 use Rattle.fields.specs.Step.{step_of}
-use Rattle.fields.specs.Walk.{walk_by, walk_of}
-use Rattle.fields.specs.Append.{append_of, buffer_after}
+use Rattle.fields.specs.Walk.{Walked, walk_by, walk_of}
+use Rattle.fields.specs.Append.{Appended, append_of, buffer_after}
 use Rattle.fields.specs.declared.Cursor.{Cursor}
-use Rattle.fields.specs.declared.Walked.{Walked}
-use Rattle.fields.specs.declared.store.Appended.{Appended}
+use Rattle.fields.specs.declared.WalkRefusal.TheVariants.{Misplaced, Broken}
+use Rattle.fields.specs.declared.store.AppendRefusal.TheVariants as append
 use Rattle.fields.specs.declared.value.Value.{Value}
 
 abbrev cursor : ℕ → Bool → Cursor
@@ -23,7 +24,7 @@ cursor p r = record { place = p; in_record = r }
 
 -- what the walk takes: a field of type k, at place p, of length n, with the value v, and the cursor after it
 abbrev took : ℕ → ℕ → ℕ → Value → Cursor → Walked
-took k p n v c = Walked.Took (record { kind = k; place = p; len = n; value = v }) c
+took k p n v c = Ok (Some (record { kind = k; place = p; len = n; value = v }, c))
 
 -- Version 03 0e, and its fill
 abbrev version : List ℕ → List ℕ
@@ -44,25 +45,25 @@ walks =
     ∷ (walk_of (version (replicate 9 0x00) ++ end) (cursor 16 false), took 0xff 16 0 Value.End (cursor 32 true))
     ∷ (walk_of (version (replicate 9 0x00) ++ end) (cursor 16 true), took 0xff 16 0 Value.End (cursor 32 true))
     -- the end when the place is the body's length
-    ∷ (walk_of (version (replicate 9 0x00)) (cursor 16 false), Walked.Finished)
-    ∷ (walk_of [] (cursor 0 false), Walked.Finished)
+    ∷ (walk_of (version (replicate 9 0x00)) (cursor 16 false), Ok None)
+    ∷ (walk_of [] (cursor 0 false), Ok None)
     -- 11: place no multiple of 16, or past the buffer; also where the body's length is no multiple of 16
-    ∷ (walk_of (version (replicate 9 0x00)) (cursor 8 false), Walked.Misplaced)
-    ∷ (walk_of (version (replicate 9 0x00)) (cursor 32 false), Walked.Misplaced)
-    ∷ (walk_of (version (replicate 8 0x00)) (cursor 15 false), Walked.Misplaced)
+    ∷ (walk_of (version (replicate 9 0x00)) (cursor 8 false), Err Misplaced)
+    ∷ (walk_of (version (replicate 9 0x00)) (cursor 32 false), Err Misplaced)
+    ∷ (walk_of (version (replicate 8 0x00)) (cursor 15 false), Err Misplaced)
     -- 14: fewer than 16 bytes follow
-    ∷ (walk_of (version (replicate 8 0x00)) (cursor 0 false), Walked.Broken)
-    ∷ (walk_of (version (replicate 10 0x00)) (cursor 16 false), Walked.Broken)
+    ∷ (walk_of (version (replicate 8 0x00)) (cursor 0 false), Err Broken)
+    ∷ (walk_of (version (replicate 10 0x00)) (cursor 16 false), Err Broken)
     -- 14: the field with its fill passes the end: 11 bytes of data fill one block, 12 want two
     ∷ (walk_of (0x0b ∷ 0x00 ∷ 0x00 ∷ 0x00 ∷ 0x02 ∷ replicate 11 0x41) (cursor 0 false), took 0x02 0 11 Value.Text (cursor 16 false))
-    ∷ (walk_of (0x0c ∷ 0x00 ∷ 0x00 ∷ 0x00 ∷ 0x02 ∷ replicate 12 0x41) (cursor 0 false), Walked.Broken)
-    ∷ (walk_of (0x0c ∷ 0x00 ∷ 0x00 ∷ 0x00 ∷ 0x02 ∷ replicate 26 0x41) (cursor 0 false), Walked.Broken)
+    ∷ (walk_of (0x0c ∷ 0x00 ∷ 0x00 ∷ 0x00 ∷ 0x02 ∷ replicate 12 0x41) (cursor 0 false), Err Broken)
+    ∷ (walk_of (0x0c ∷ 0x00 ∷ 0x00 ∷ 0x00 ∷ 0x02 ∷ replicate 26 0x41) (cursor 0 false), Err Broken)
     ∷ (walk_of (0x0c ∷ 0x00 ∷ 0x00 ∷ 0x00 ∷ 0x02 ∷ replicate 27 0x41) (cursor 0 false), took 0x02 0 12 Value.Text (cursor 32 false))
     -- 14: field length 4,294,967,295 in a two-block body; and 4,294,967,291, whose sum with 5 is 0 in 32 bits
-    ∷ (walk_of (0xff ∷ 0xff ∷ 0xff ∷ 0xff ∷ 0x02 ∷ replicate 27 0x41) (cursor 0 false), Walked.Broken)
-    ∷ (walk_of (0xfb ∷ 0xff ∷ 0xff ∷ 0xff ∷ 0x02 ∷ replicate 27 0x41) (cursor 0 false), Walked.Broken)
+    ∷ (walk_of (0xff ∷ 0xff ∷ 0xff ∷ 0xff ∷ 0x02 ∷ replicate 27 0x41) (cursor 0 false), Err Broken)
+    ∷ (walk_of (0xfb ∷ 0xff ∷ 0xff ∷ 0xff ∷ 0x02 ∷ replicate 27 0x41) (cursor 0 false), Err Broken)
     -- 14: END with data
-    ∷ (walk_of (0x01 ∷ 0x00 ∷ 0x00 ∷ 0x00 ∷ 0xff ∷ replicate 11 0x00) (cursor 0 false), Walked.Broken)
+    ∷ (walk_of (0x01 ∷ 0x00 ∷ 0x00 ∷ 0x00 ∷ 0xff ∷ replicate 11 0x00) (cursor 0 false), Err Broken)
     ∷ []
 
 -- append to 48 bytes ee, and what they are afterwards
@@ -75,16 +76,16 @@ appended p k d f = (append_of buffer p (stored k d f), buffer_after (append_of b
 abbrev pub appends : List ((Appended × List ℕ) × (Appended × List ℕ))
 appends =
     -- only the new field's bytes change
-    (appended 16 0x02 (0x41 ∷ []) (replicate 10 0x77), (Appended.Next 32, replicate 16 0xee ++ (0x01 ∷ 0x00 ∷ 0x00 ∷ 0x00 ∷ 0x02 ∷ 0x41 ∷ replicate 10 0x77) ++ replicate 16 0xee))
-    ∷ (appended 32 0xff [] (replicate 11 0x00), (Appended.Next 48, replicate 32 0xee ++ end))
+    (appended 16 0x02 (0x41 ∷ []) (replicate 10 0x77), (Ok 32, replicate 16 0xee ++ (0x01 ∷ 0x00 ∷ 0x00 ∷ 0x00 ∷ 0x02 ∷ 0x41 ∷ replicate 10 0x77) ++ replicate 16 0xee))
+    ∷ (appended 32 0xff [] (replicate 11 0x00), (Ok 48, replicate 32 0xee ++ end))
     -- 11, then 13, then 12, then 3: at the place 8 all four are there, and one less at each next line
-    ∷ (appended 8 0xff (replicate 60 0x00) [], (Appended.Misplaced, buffer))
-    ∷ (appended 64 0x02 [] (replicate 11 0x00), (Appended.Misplaced, buffer))
-    ∷ (appended 0 0xff (replicate 60 0x00) [], (Appended.EndWithData, buffer))
-    ∷ (appended 0 0x02 (replicate 60 0x00) [], (Appended.BadFill, buffer))
-    ∷ (appended 0 0x02 (replicate 60 0x00) (replicate 16 0x00), (Appended.BadFill, buffer))
-    ∷ (appended 0 0x02 (replicate 60 0x00) (replicate 15 0x00), (Appended.NoRoom, buffer))
-    ∷ (appended 48 0x02 [] (replicate 11 0x00), (Appended.NoRoom, buffer))
+    ∷ (appended 8 0xff (replicate 60 0x00) [], (Err append.Misplaced, buffer))
+    ∷ (appended 64 0x02 [] (replicate 11 0x00), (Err append.Misplaced, buffer))
+    ∷ (appended 0 0xff (replicate 60 0x00) [], (Err append.EndWithData, buffer))
+    ∷ (appended 0 0x02 (replicate 60 0x00) [], (Err append.BadFill, buffer))
+    ∷ (appended 0 0x02 (replicate 60 0x00) (replicate 16 0x00), (Err append.BadFill, buffer))
+    ∷ (appended 0 0x02 (replicate 60 0x00) (replicate 15 0x00), (Err append.NoRoom, buffer))
+    ∷ (appended 48 0x02 [] (replicate 11 0x00), (Err append.NoRoom, buffer))
     ∷ []
 
 -- "1234", which is four bytes and a text; as a number 0x34333231
@@ -93,6 +94,9 @@ four = 0x31 ∷ 0x32 ∷ 0x33 ∷ 0x34 ∷ []
 
 abbrev uuid : List ℕ
 uuid = to 0x00 0x0f
+
+abbrev id : Value
+id = Value.Uuid (record { low = 0x0706050403020100; high = 0x0f0e0d0c0b0a0908 })
 
 -- "48C2f73" and one digit more
 abbrev eight : ℕ → List ℕ
@@ -116,7 +120,7 @@ values =
           ∷ Value.Text ∷ (replicate 222 Value.Opaque ++ (Value.End ∷ [])),
     )
     -- each at its own size, and off it
-    ∷ (value_of false 0x01 uuid ∷ value_of true 0x01 uuid ∷ value_of true 0x01 (0x10 ∷ uuid) ∷ [], Value.Uuid 0x0706050403020100 0x0f0e0d0c0b0a0908 ∷ Value.Uuid 0x0706050403020100 0x0f0e0d0c0b0a0908 ∷ Value.Misshapen ∷ [])
+    ∷ (value_of false 0x01 uuid ∷ value_of true 0x01 uuid ∷ value_of true 0x01 (0x10 ∷ uuid) ∷ [], id ∷ id ∷ Value.Misshapen ∷ [])
     ∷ (value_of false 0x00 (0x0e ∷ 0x03 ∷ []) ∷ value_of true 0x13 (0x01 ∷ 0x02 ∷ []) ∷ value_of true 0x17 (0x01 ∷ 0x02 ∷ []) ∷ [], Value.Number 0x030e ∷ Value.Number 0x0201 ∷ Value.Number 0x0201 ∷ [])
     ∷ (value_of true 0x15 (0x00 ∷ []) ∷ value_of true 0x15 (0x01 ∷ []) ∷ value_of true 0x15 (0x80 ∷ []) ∷ [], Value.Flag false ∷ Value.Flag true ∷ Value.Flag true ∷ [])
     ∷ (map (λ k. value_of true k (0x01 ∷ 0x02 ∷ 0x03 ∷ [])) (0x07 ∷ 0x11 ∷ 0x13 ∷ 0x15 ∷ []), replicate 4 Value.Misshapen)
@@ -150,7 +154,7 @@ cases = (refl, refl, refl)
 
 -- 3 past 4,194,096 also where the buffer goes on: no field ends there
 pub longest : (b : List ℕ) → length b ≡ 4194304
-    → (append_of b 4194080 (stored 0x02 [] (replicate 11 0x00)) ≡ Appended.Next 4194096)
-    × (append_of b 4194096 (stored 0x02 [] (replicate 11 0x00)) ≡ Appended.NoRoom)
+    → (append_of b 4194080 (stored 0x02 [] (replicate 11 0x00)) ≡ Ok 4194096)
+    × (append_of b 4194096 (stored 0x02 [] (replicate 11 0x00)) ≡ Err append.NoRoom)
 unfolding append_of
 longest b e = (rw e, rw e)

@@ -1,8 +1,5 @@
-mod Shapes
 pub mod Outcomes
 pub mod Valued
-mod Parts
-mod Appends
 pub mod Back
 pub mod Numbers
 pub mod UuidValue

@@ -1,14 +1,13 @@
 -- An old save stamp is a Time exactly where its eight bytes spell it, and else Misshapen, as it was; every other field has the value of the list: by the definition, and
 -- by what digits come to.
 use Prim.Native.Nat.{ℕ, ◌<◌, ◌^◌}
-use mathlib.Core.Path.{◌≡◌, refl, sym, ◌∙◌}
-use mathlib.Core.Logic.{◌↔◌, ◌⊎◌, inl, inr}
-use mathlib.Core.Bool.{Bool, true, false, cond, not, ◌&&◌, ◌||◌, false≢true}
+use mathlib.Core.Path.{◌≡◌, refl}
+use mathlib.Core.Logic.{◌↔◌, ◌⊎◌}
+use mathlib.Core.Bool.{Bool, true, false}
 use mathlib.Core.List.{List, map}
-use native.Mathlib.Omega.{arith}
-use lib.Dec.{eqb}
 use lib.ListN.{length}
-use borrow.Author.Tests.{eqb-true}
+use native.Mathlib.Omega.{arith}
+use Rattle.std.proofs.lemmas.Bool.Decides.{nat_tests}
 use Rattle.words.specs.Hex.{hex_digit, Digits, all_digits, hex_number, digit_values, Spells}
 use Rattle.words.proofs.HexNumbers.{digits_fit, digits_exactly, spells_exactly, digits_long, spelled_in}
 use Rattle.fields.specs.declared.value.Value.{Value}
@@ -17,22 +16,7 @@ use Rattle.fields.specs.Stamp.{OldStamp}
 
 -- the definition's test picks old stamps, and nothing else
 pub old_exactly : (r : Bool) (k : ℕ) (d : List ℕ) → (old_stamp r k (length d) ≡ true) ↔ OldStamp r k d
-old_exactly r k d = (forth r (eqb (length d) 8) (eqb k 0x04) (eqb k 0x13) refl refl refl refl, back)
-  where
-    forth : (q n a b : Bool) → r ≡ q → eqb (length d) 8 ≡ n → eqb k 0x04 ≡ a → eqb k 0x13 ≡ b → ((not q && (a || (b || false))) && n) ≡ true → OldStamp r k d
-    forth true n a b f e g i h = absurd (false≢true h)
-    forth false n false false f e g i h = absurd (false≢true h)
-    forth false false true b f e g i h = absurd (false≢true h)
-    forth false false false true f e g i h = absurd (false≢true h)
-    forth false true true b f e g i h = record { header = f; kind = inl (eqb-true k 0x04 g); eight = eqb-true (length d) 8 e }
-    forth false true false true f e g i h = record { header = f; kind = inr (eqb-true k 0x13 i); eight = eqb-true (length d) 8 e }
-
-    back : OldStamp r k d → old_stamp r k (length d) ≡ true
-    back o = by o.kind
-      where
-        by : (k ≡ 0x04) ⊎ (k ≡ 0x13) → old_stamp r k (length d) ≡ true
-        by (inl e) = rw (o.header, o.eight, e)
-        by (inr e) = rw (o.header, o.eight, e)
+old_exactly r k d = (λ h. grind (arith, nat_tests), λ o. grind (arith, nat_tests))
 
 module _ (r : Bool) (k : ℕ) (d : List ℕ) where
   pub as_stamp : OldStamp r k d → value_of r k d ≡ stamp_of d
@@ -42,55 +26,25 @@ module _ (r : Bool) (k : ℕ) (d : List ℕ) where
   -- Q2.b of every other type, in a record, and at any other length, the value is what it was
   pub as_listed : (OldStamp r k d → ⊥) → value_of r k d ≡ listed_of r k d
   unfolding value_of
-  as_listed h = by (old_stamp r k (length d)) refl
-    where
-      by : (b : Bool) → old_stamp r k (length d) ≡ b → cond b (stamp_of d) (listed_of r k d) ≡ listed_of r k d
-      by true e = absurd (h ((old_exactly r k d).0 e))
-      by false e = refl
+  as_listed h = grind (arith, nat_tests, old_exactly r k d)
 
   module _ (o : OldStamp r k d) where
     -- Q2.a "For header 04 and 13, eight hex digits of either case now give Time"
     pub stamp_exactly : (t : ℕ) → (value_of r k d ≡ Value.Time t) ↔ Spells d t
-    stamp_exactly t = (
-      λ h. (spells_exactly d t).0 (by (all_digits d) (sym (as_stamp o) ∙ h)),
-      λ s. let x = (spells_exactly d t).1 s in as_stamp o ∙ rw (x.0, x.1),
-    )
-      where
-        by : (b : Bool) → cond b (Value.Time (hex_number d)) Value.Misshapen ≡ Value.Time t → (b ≡ true) × (hex_number d ≡ t)
-        by true h = (refl, cc)
-        by false h = absurd (let z : ◌≡◌ {A = ℕ} 0 1 = cc in omega arith)
+    stamp_exactly t = grind (arith, as_stamp o, spells_exactly d t)
 
     -- Q2.a "eight bytes that are not all hex digits stay Misshapen"
     pub stamp_else : (value_of r k d ≡ Value.Misshapen) ↔ (Digits d → ⊥)
-    stamp_else = (
-      λ h a.
-          let e : stamp_of d ≡ Value.Time (hex_number d) = rw ((digits_exactly d).1 a) in
-          let f : Value.Misshapen ≡ Value.Time (hex_number d) = sym h ∙ as_stamp o ∙ e in
-          let z : ◌≡◌ {A = ℕ} 0 1 = cc in
-          omega arith,
-      λ h. as_stamp o ∙ by (all_digits d) refl h,
-    )
-      where
-        by : (b : Bool) → all_digits d ≡ b → (Digits d → ⊥) → cond b (Value.Time (hex_number d)) Value.Misshapen ≡ Value.Misshapen
-        by true e h = absurd (h ((digits_exactly d).0 e))
-        by false e h = refl
+    stamp_else = grind (arith, as_stamp o, digits_exactly d)
 
     -- it was Misshapen, whatever its bytes
     pub stamp_before : listed_of r k d ≡ Value.Misshapen
     unfolding header_shape
-    stamp_before = by o.kind
-      where
-        by : (k ≡ 0x04) ⊎ (k ≡ 0x13) → listed_of r k d ≡ Value.Misshapen
-        by (inl e) = rw (e, o.header, o.eight) refl
-        by (inr e) = rw (e, o.header, o.eight) refl
+    stamp_before = grind (arith, nat_tests)
 
 -- of an old stamp that is not all digits too
 pub unless_digits : (r : Bool) (k : ℕ) (d : List ℕ) → (OldStamp r k d → Digits d → ⊥) → value_of r k d ≡ listed_of r k d
-unless_digits r k d h = by (old_stamp r k (length d)) refl
-  where
-    by : (b : Bool) → old_stamp r k (length d) ≡ b → value_of r k d ≡ listed_of r k d
-    by true e = let o = (old_exactly r k d).0 e in (stamp_else r k d o).1 (h o) ∙ sym (stamp_before r k d o)
-    by false e = as_listed r k d (λ o. false≢true (sym e ∙ (old_exactly r k d).1 o))
+unless_digits r k d h = grind (arith, old_exactly r k d, as_listed r k d, stamp_else r k d, stamp_before r k d)
 
 -- Q2.b "Record times stay at 4 bytes"; so what is asked of records alone, by find and by the login table, stays too
 pub in_record : (k : ℕ) (d : List ℕ) → value_of true k d ≡ listed_of true k d

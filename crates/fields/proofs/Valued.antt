@@ -1,21 +1,22 @@
 -- The walk by any values gives what the step gives, and the value by these: by the cases of the step's answer. So what it takes, and where, is the same whatever the values.
 use Prim.Native.Nat.{ℕ}
-use mathlib.Core.Path.{◌≡◌, refl, sym, ap, ◌∙◌}
+use mathlib.Core.Path.{◌≡◌, sym, ap, ◌∙◌}
 use mathlib.Core.List.{List}
-use native.Mathlib.Omega.{arith}
+use Rattle.std.proofs.Common.{Option, None, Some, Result, Ok, Err, arith}
 use Rattle.fields.specs.Step.{step_of}
-use Rattle.fields.specs.Walk.{ValueFunction, field_by, with_value, walk_by}
+use Rattle.fields.specs.Walk.{ValueFunction, Walked, field_by, with_value, walk_by}
 use Rattle.fields.specs.declared.Cursor.{Cursor}
 use Rattle.fields.specs.declared.Field.{Field}
-use Rattle.fields.specs.declared.Stepped.{Stepped}
-use Rattle.fields.specs.declared.Walked.{Walked}
-use Rattle.fields.specs.declared.Walked.TheVariants.{Took, Finished, Misplaced, Broken}
+use Rattle.fields.specs.declared.Taken.{Taken}
+use Rattle.fields.specs.declared.WalkRefusal.{WalkRefusal}
+
+abbrev Stepped : Type 0
+Stepped = Result (Option Taken) WalkRefusal
 
 abbrev pub without_value : Walked → Stepped
-without_value (Took f d) = Stepped.Took f.kind f.len d
-without_value Finished = Stepped.Finished
-without_value Misplaced = Stepped.Misplaced
-without_value Broken = Stepped.Broken
+without_value (Ok (Some w)) = Ok (Some (record { kind = w.0.kind; len = w.0.len; next = w.1 }))
+without_value (Ok None) = Ok None
+without_value (Err e) = Err e
 
 module _ (v : ValueFunction) (s : List ℕ) (c : Cursor) where
   -- with the step's answer
@@ -26,26 +27,12 @@ module _ (v : ValueFunction) (s : List ℕ) (c : Cursor) where
   -- without the value it is the step
   pub step_of_lem : without_value (walk_by v s c) ≡ step_of s c
   unfolding walk_by
-  step_of_lem = by (step_of s c)
-    where
-      by : (r : Stepped) → without_value (with_value v s c r) ≡ r
-      by (Stepped.Took k n d) = refl
-      by Stepped.Finished = refl
-      by Stepped.Misplaced = refl
-      by Stepped.Broken = refl
+  step_of_lem = grind arith
 
   -- and the field that it takes has the value by v
-  pub field_of : (f : Field) (d : Cursor) → walk_by v s c ≡ Took f d → f ≡ field_by v s c f.kind f.len
+  pub field_of : (f : Field) (d : Cursor) → walk_by v s c ≡ Ok (Some (f, d)) → f ≡ field_by v s c f.kind f.len
   unfolding walk_by
-  field_of f d e = by (step_of s c) e
-    where
-      by : (r : Stepped) → with_value v s c r ≡ Took f d → f ≡ field_by v s c f.kind f.len
-      by (Stepped.Took k n d') h =
-          let i : field_by v s c k n ≡ f = cc in
-          sym i ∙ ap (λ (g : Field). field_by v s c g.kind g.len) i
-      by Stepped.Finished h = absurd (let z : ◌≡◌ {A = ℕ} 0 1 = cc in omega arith)
-      by Stepped.Misplaced h = absurd (let z : ◌≡◌ {A = ℕ} 0 1 = cc in omega arith)
-      by Stepped.Broken h = absurd (let z : ◌≡◌ {A = ℕ} 0 1 = cc in omega arith)
+  field_of f d e = grind arith
 
 -- two walks that differ in the values alone take the same, where the other does, and refuse the same
 pub any_values : (v w : ValueFunction) (s : List ℕ) (c : Cursor) → without_value (walk_by v s c) ≡ without_value (walk_by w s c)

@@ -1,11 +1,12 @@
 -- One step of the walk: what stands at a cursor, of a field its type and the length of its data, and the cursor after it; or the end, or a refusal (document 01, "Fields and the
 -- well-formed body" and "Numbers of refusal"). It looks at no byte of the data.
-use Rattle.std.specs.Prelude.{ℕ, ◌+◌, ◌-◌, ◌%◌, Bool, false, cond, not, ◌||◌, ◌&&◌, List, ltb, eqb, length, get_or, take, drop}
+use Rattle.std.specs.Prelude.{ℕ, ◌+◌, ◌-◌, ◌%◌, Bool, false, cond, not, ◌||◌, ◌&&◌, List, ltb, eqb, length, get_or, take, drop, Option, None, Some, Result, Ok, Err}
 use Rattle.words.specs.Numbers.{number_low}
 use Rattle.fields.specs.Stored.{room_of}
 use Rattle.fields.specs.declared.Cursor.{Cursor}
-use Rattle.fields.specs.declared.Stepped.{Stepped}
-use Rattle.fields.specs.declared.Stepped.TheVariants.{Took, Finished, Misplaced, Broken}
+use Rattle.fields.specs.declared.Taken.{Taken}
+use Rattle.fields.specs.declared.WalkRefusal.{WalkRefusal}
+use Rattle.fields.specs.declared.WalkRefusal.TheVariants.{Misplaced, Broken}
 
 -- at a body's start: at place 0, in the header
 abbrev pub start : Cursor
@@ -40,9 +41,14 @@ end_with_data k n = eqb k 0xff && not (eqb n 0)
 abbrev pub broken : List ℕ → ℕ → Bool
 broken s p = ltb (length s - p) 16 || (ltb (length s - p) (room_of (len_at s p)) || end_with_data (kind_at s p) (len_at s p))
 
-unfoldable pub step_of : List ℕ → Cursor → Stepped
+-- what is taken at a cursor
+abbrev pub taken_at : List ℕ → Cursor → Taken
+taken_at s c = record { kind = kind_at s c.place; len = len_at s c.place; next = after s c }
+
+-- Ok None at the end
+unfoldable pub step_of : List ℕ → Cursor → Result (Option Taken) WalkRefusal
 step_of s c =
-    cond (misplaced s c.place) Misplaced
-    (cond (eqb c.place (length s)) Finished
-    (cond (broken s c.place) Broken
-    (Took (kind_at s c.place) (len_at s c.place) (after s c))))
+    cond (misplaced s c.place) (Err Misplaced)
+    (cond (eqb c.place (length s)) (Ok None)
+    (cond (broken s c.place) (Err Broken)
+    (Ok (Some (taken_at s c)))))

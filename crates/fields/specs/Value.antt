@@ -1,12 +1,11 @@
 -- What the data of a field stands for (document 01, the list of values; document 02, Q-5 and Q-2).
-use Rattle.std.specs.Prelude.{ℕ, Bool, cond, not, ◌&&◌, List, [], ◌∷◌, ◌++◌, eqb, length, get_or, take, drop}
+use Rattle.std.specs.Prelude.{ℕ, Bool, cond, not, ◌&&◌, List, [], ◌∷◌, ◌++◌, eqb, length, get_or, take, drop, Option, None, Some}
 use Rattle.words.specs.Hex.{all_digits, hex_number}
 use Rattle.words.specs.Members.{among, to}
 use Rattle.words.specs.Numbers.{number_low}
 use Rattle.text.specs.Decision.{goes_wrong_of}
-use Rattle.text.specs.declared.Wrong.{Wrong}
-use Rattle.text.specs.declared.Wrong.TheVariants.{Nowhere, At}
 use Rattle.fields.specs.declared.value.Shape.{Shape}
+use Rattle.fields.specs.declared.value.Uuid.{Uuid}
 use Rattle.fields.specs.declared.value.Value.{Value}
 
 -- the types of each value: in the header, and in a record
@@ -49,13 +48,16 @@ abbrev pub sized : ℕ → List ℕ → Value → Value
 sized n d v = cond (eqb (length d) n) v Value.Misshapen
 
 -- Text, or BadText with the number where it goes wrong
-abbrev pub textual : Wrong → Value
-textual Nowhere = Value.Text
-textual (At n) = Value.BadText n
+abbrev pub textual : Option ℕ → Value
+textual None = Value.Text
+textual (Some n) = Value.BadText n
 
--- Uuid: bytes 0 to 7 and bytes 8 to 15, each little-endian, as every stored number
+-- bytes 0 to 7 and bytes 8 to 15, each little-endian, as every stored number
+abbrev pub uuid_in : List ℕ → Uuid
+uuid_in d = record { low = number_low (take 8 d); high = number_low (take 8 (drop 8 d)) }
+
 abbrev pub shaped_of : Shape → List ℕ → Value
-shaped_of Shape.Uuid d = sized 16 d (Value.Uuid (number_low (take 8 d)) (number_low (take 8 (drop 8 d))))
+shaped_of Shape.Uuid d = sized 16 d (Value.Uuid (uuid_in d))
 shaped_of Shape.Time d = sized 4 d (Value.Time (number_low d))
 shaped_of Shape.Word d = sized 4 d (Value.Number (number_low d))
 shaped_of Shape.Half d = sized 2 d (Value.Number (number_low d))
@@ -90,7 +92,7 @@ value_of r k d = cond (old_stamp r k (length d)) (stamp_of d) (listed_of r k d)
 abbrev pub value_numbers : Value → List ℕ
 value_numbers Value.Empty = 0 ∷ 0 ∷ 0 ∷ []
 value_numbers Value.End = 1 ∷ 0 ∷ 0 ∷ []
-value_numbers (Value.Uuid a b) = 2 ∷ a ∷ b ∷ []
+value_numbers (Value.Uuid u) = 2 ∷ u.low ∷ u.high ∷ []
 value_numbers (Value.Time t) = 3 ∷ t ∷ 0 ∷ []
 value_numbers (Value.Number n) = 4 ∷ n ∷ 0 ∷ []
 value_numbers (Value.Flag t) = 5 ∷ cond t 1 0 ∷ 0 ∷ []

@@ -8,21 +8,23 @@ pub mod value;
 
 ghost use Rattle.std.specs.Prelude.{◌≡◌};
 ghost use Rattle.fields.specs.Stored.{room_of, fill_of};
-ghost use Rattle.fields.specs.Step.{step_of, start as start_of, end_with_data, passed as passed_of};
+ghost use Rattle.fields.specs.Step.{step_of, start as start_of, misplaced, end_with_data};
 ghost use Rattle.fields.specs.Walk.{walk_of};
 
-pub use store::{Appended, append};
-pub use value::Value;
+pub use store::{AppendRefusal, append};
+use value::value_of;
+pub use value::{Uuid, Value};
+use words::numbers::word_at;
 
 // Where the walk stands, and whether it is in a record or still in the header.
-#[derive(Clone, Copy)]
+#[derive(Clone, Copy, Debug, PartialEq, Eq)]
 pub struct Cursor {
     pub place: usize,
     pub in_record: bool,
 }
 
 // A field: its type, the place of its first length byte, the length of its data, and its value.
-#[derive(Clone, Copy)]
+#[derive(Clone, Copy, Debug, PartialEq, Eq)]
 pub struct Field {
     pub kind: u8,
     pub place: usize,
@@ -30,22 +32,33 @@ pub struct Field {
     pub value: Value,
 }
 
-// Misplaced is refusal 11, Broken 14.
-#[derive(Clone, Copy)]
-pub enum Walked {
-    Took(Field, Cursor),
-    Finished,
-    Misplaced,
-    Broken,
+// Why the walk takes no field, with the numbers of refusal.
+#[derive(Clone, Copy, Debug, PartialEq, Eq)]
+pub enum WalkRefusal {
+    Misplaced = 11,
+    Broken = 14,
 }
 
+impl From<WalkRefusal> for u32 {
+    ghost use Rattle.fields.specs.Walk.{walk_refusal_number};
+
+    ghost from_gives = { λ refusal n. n ≡ walk_refusal_number refusal };
+
+    fn from(refusal: WalkRefusal) -> u32 {
+        refusal as u32
+    }
+}
+
+// The field that the walk takes, and the cursor after it; None at the end.
+pub type Walked = Result<Option<(Field, Cursor)>, WalkRefusal>;
+
 // What the walk finds at a cursor, without the value: the field's type and the length of its data, and the cursor after it.
-#[derive(Clone, Copy)]
-pub enum Stepped {
-    Took(u8, usize, Cursor),
-    Finished,
-    Misplaced,
-    Broken,
+// Its data stand 5 bytes behind its place. Callers cut them out themselves: a method would ask each of them to show that the walk took the field.
+#[derive(Clone, Copy, Debug, PartialEq, Eq)]
+pub struct Taken {
+    pub kind: u8,
+    pub len: usize,
+    pub next: Cursor,
 }
 
 // The cursor at a body's start.
@@ -65,88 +78,74 @@ pub fn fill_for(len: usize) -> usize
     (27 - len % 16) % 16
 }
 
-// The bytes that a field with so many bytes of data takes: whole blocks.
+// The bytes that a field with so many bytes of data takes: whole blocks. By next_multiple_of the walk takes 3 % longer.
 pub fn room(len: u32) -> usize
     ensures { result ≡ room_of len }
 {
-    16 * (((len as usize) + 20) / 16)
+    16 * ((len as usize + 20) / 16)
 }
 
 pub fn end_with_data(kind: u8, len: usize) -> bool
     ensures { result ≡ end_with_data kind len }
 {
-    if kind != 0xff {
-        return false;
-    }
-    len != 0
+    kind == 0xff && len != 0
 }
 
-// The cursor behind a field of this type.
-fn passed(place: usize, in_record: bool, kind: u8) -> Cursor
-    ensures { result ≡ passed_of place in_record kind }
+// No place of a field in such bytes: no multiple of 16, or past their end.
+fn misplaced(bytes: &[u8], place: usize) -> bool
+    ensures { result ≡ misplaced bytes.now place }
 {
-    if in_record {
-        return Cursor {
-            place: place,
-            in_record: true,
-        };
-    }
-    Cursor {
-        place: place,
-        in_record: kind == 0xff,
-    }
+    place % 16 != 0 || bytes.len() < place
 }
 
-// The walk without the value: it looks at no byte of the data.
-pub fn step(body: &[u8], c: Cursor) -> Stepped
+// The walk without the value: it looks at no byte of the data. None is the end.
+#[tactic(auto, unfolding(crate::specs::Step::step_of))]
+pub fn step(body: &[u8], c: Cursor) -> Result<Option<Taken>, WalkRefusal>
     ensures { result ≡ step_of body.now c }
 {
-    let at = c.place;
-    let n = body.len();
-    if at % 16 != 0 {
-        return Stepped::Misplaced;
+    if misplaced(body, c.place) {
+        return Err(WalkRefusal::Misplaced);
     }
-    if n < at {
-        return Stepped::Misplaced;
+    let left = body.len() - c.place;
+    if left == 0 {
+        return Ok(None);
     }
-    if at == n {
-        return Stepped::Finished;
+    if left < 16 {
+        return Err(WalkRefusal::Broken);
     }
-    if n - at < 16 {
-        return Stepped::Broken;
+    let len = word_at(body, c.place);
+    let kind = body[c.place + 4];
+    let room = room(len);
+    let len = len as usize;
+    if left < room {
+        return Err(WalkRefusal::Broken);
     }
-    let size = words::numbers::low(body[at], body[at + 1], body[at + 2], body[at + 3]);
-    let len = size as usize;
-    let kind = body[at + 4];
-    let room = room(size);
-    if n - at < room {
-        return Stepped::Broken;
-    }
-    if end_with_data(kind, len) {
-        return Stepped::Broken;
-    }
-    Stepped::Took(kind, len, passed(at + room, c.in_record, kind))
+    let in_record = match (kind, len) {
+        (0xff, 0) => true,
+        (0xff, _) => return Err(WalkRefusal::Broken),
+        _ => c.in_record,
+    };
+    let next = Cursor {
+        place: c.place + room,
+        in_record,
+    };
+    Ok(Some(Taken { kind, len, next }))
 }
 
-// The field at the cursor, and the cursor after it.
+// The field at the cursor, and the cursor after it. None is the end.
+#[tactic(auto, using(crate::proofs::Outcomes::data_inside), unfolding(crate::specs::Walk::walk_by))]
 pub fn walk(body: &[u8], c: Cursor) -> Walked
     ensures { result ≡ walk_of body.now c }
 {
-    match step(body, c) {
-        Stepped::Took(kind, len, next) => {
-            let start = c.place + 5;
-            let end = start + len;
-            let value = value::value_of(c.in_record, kind, &body[start..end]);
-            let field = Field {
-                kind: kind,
-                place: c.place,
-                len: len,
-                value: value,
-            };
-            Walked::Took(field, next)
-        }
-        Stepped::Finished => Walked::Finished,
-        Stepped::Misplaced => Walked::Misplaced,
-        Stepped::Broken => Walked::Broken,
-    }
+    let Some(Taken { kind, len, next }) = step(body, c)? else {
+        return Ok(None);
+    };
+    let start = c.place + 5;
+    let field = Field {
+        kind,
+        place: c.place,
+        len,
+        value: value_of(c.in_record, kind, &body[start..start + len]),
+    };
+    Ok(Some((field, next)))
 }

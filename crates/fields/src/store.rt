@@ -4,26 +4,37 @@ ghost use Rattle.words.specs.Numbers.{bytes_low};
 ghost use Rattle.fields.specs.Stored.{stored, bytes_of};
 ghost use Rattle.fields.specs.Append.{append_of, buffer_after};
 
-// The next place, or why the field was refused: 11, 13, 12, 3.
-#[derive(Clone, Copy)]
-pub enum Appended {
-    Next(usize),
-    Misplaced,
-    EndWithData,
-    BadFill,
-    NoRoom,
+use crate::{end_with_data, fill_for, misplaced};
+
+// No field may end behind it.
+const LONGEST_BODY: usize = 4194096;
+
+// Why a field was refused, with the numbers of refusal.
+#[derive(Clone, Copy, Debug, PartialEq, Eq)]
+pub enum AppendRefusal {
+    Misplaced = 11,
+    EndWithData = 13,
+    BadFill = 12,
+    NoRoom = 3,
 }
 
-fn head(part: &mut [u8], len: usize, kind: u8)
-    requires { length part.old ≡ 5 }
-    ensures { part.new ≡ bytes_low 4 len ++ (kind ∷ []) }
+impl From<AppendRefusal> for u32 {
+    ghost use Rattle.fields.specs.Append.{append_refusal_number};
+
+    ghost from_gives = { λ refusal n. n ≡ append_refusal_number refusal };
+
+    fn from(refusal: AppendRefusal) -> u32 {
+        refusal as u32
+    }
+}
+
+// A field's length and type, as they are stored.
+#[tactic(auto, using(words::proofs::NumberLaws::four_low))]
+fn head(len: usize, kind: u8) -> [u8; 5]
+    ensures { result ≡ bytes_low 4 len ++ (kind ∷ []) }
 {
-    let n = len as u64;
-    part[0] = words::numbers::wide_byte(n, 0);
-    part[1] = words::numbers::wide_byte(n, 1);
-    part[2] = words::numbers::wide_byte(n, 2);
-    part[3] = words::numbers::wide_byte(n, 3);
-    part[4] = kind;
+    let [a, b, c, d, ..] = len.to_le_bytes();
+    [a, b, c, d, kind]
 }
 
 // Fills the part that a field takes.
@@ -31,43 +42,41 @@ fn write(part: &mut [u8], kind: u8, content: &[u8], fill: &[u8])
     requires { length part.old ≡ 5 + length content.now + length fill.now }
     ensures { part.new ≡ bytes_of (stored kind content.now fill.now) }
 {
-    let n = content.len();
-    let at = 5 + n;
-    let end = at + fill.len();
-    head(&mut part[0..5], n, kind);
-    words::slices::copy(&mut part[5..at], content);
-    words::slices::copy(&mut part[at..end], fill);
+    let (start, rest) = part.split_at_mut(5);
+    let (middle, end) = rest.split_at_mut(content.len());
+    start.copy_from_slice(&head(content.len(), kind));
+    middle.copy_from_slice(content);
+    end.copy_from_slice(fill);
 }
 
-// A field at a place of the buffer; refused, nothing changes.
-pub fn append(buf: &mut [u8], place: usize, kind: u8, content: &[u8], fill: &[u8]) -> Appended
+// A field at a place of the buffer, and the next place; refused, nothing changes. Type, data and fill come apart, as in the C call talc_append: a struct of
+// the three would be made for this call alone.
+#[tactic(auto, unfolding(crate::specs::Append::append_of))]
+pub fn append(
+    buf: &mut [u8],
+    place: usize,
+    kind: u8,
+    content: &[u8],
+    fill: &[u8],
+) -> Result<usize, AppendRefusal>
     ensures answer { result ≡ append_of buf.old place (stored kind content.now fill.now) }
     ensures memory { buf.new ≡ buffer_after result buf.old place (stored kind content.now fill.now) }
 {
     let n = content.len();
-    let size = buf.len();
-    if place % 16 != 0 {
-        return Appended::Misplaced;
+    if misplaced(buf, place) {
+        return Err(AppendRefusal::Misplaced);
     }
-    if size < place {
-        return Appended::Misplaced;
+    if end_with_data(kind, n) {
+        return Err(AppendRefusal::EndWithData);
     }
-    let ended = crate::end_with_data(kind, n);
-    let needed = crate::fill_for(n);
-    if ended {
-        return Appended::EndWithData;
+    if fill.len() != fill_for(n) {
+        return Err(AppendRefusal::BadFill);
     }
-    if fill.len() != needed {
-        return Appended::BadFill;
-    }
-    let room = 5 + n + needed;
-    if size - place < room {
-        return Appended::NoRoom;
+    let room = 5 + n + fill.len();
+    if buf.len() - place < room || LONGEST_BODY < place + room {
+        return Err(AppendRefusal::NoRoom);
     }
     let end = place + room;
-    if 4194096 < end {
-        return Appended::NoRoom;
-    }
     write(&mut buf[place..end], kind, content, fill);
-    Appended::Next(end)
+    Ok(end)
 }

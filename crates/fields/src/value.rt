@@ -1,9 +1,12 @@
 // What the data of a field stands for.
-ghost use Rattle.std.specs.Prelude.{◌≡◌, ◌<◌, length};
-ghost use Rattle.fields.specs.Value.{header_shape, record_shape, shaped_of, listed_of, stamp_of, value_of};
+ghost use Rattle.std.specs.Prelude.{◌≡◌, length};
+ghost use Rattle.fields.specs.Value.{uuid_in, header_shape, record_shape, shaped_of, stamp_of, value_of};
+
+use crate::stamp::old_stamp;
+use words::numbers::{wide_at, word_at};
 
 // How the data of a field of some type is to be read: Word and Half are numbers of 4 and 2 bytes.
-#[derive(Clone, Copy)]
+#[derive(Clone, Copy, Debug, PartialEq, Eq)]
 pub enum Shape {
     Uuid,
     Time,
@@ -14,12 +17,32 @@ pub enum Shape {
     Opaque,
 }
 
+// The halves of a UUID: its bytes 0 to 7 and 8 to 15.
+#[derive(Clone, Copy, Debug, PartialEq, Eq)]
+pub struct Uuid {
+    pub low: u64,
+    pub high: u64,
+}
+
+impl Uuid {
+    // The UUID of 16 bytes.
+    pub fn read(d: &[u8]) -> Uuid
+        requires { length d.now ≡ 16 }
+        ensures { result ≡ uuid_in d.now }
+    {
+        Uuid {
+            low: wide_at(d, 0),
+            high: wide_at(d, 8),
+        }
+    }
+}
+
 // BadText has the number of bytes that are right.
-#[derive(Clone, Copy)]
+#[derive(Clone, Copy, Debug, PartialEq, Eq)]
 pub enum Value {
     Empty,
     End,
-    Uuid(u64, u64),
+    Uuid(Uuid),
     Time(u32),
     Number(u32),
     Flag(bool),
@@ -29,191 +52,88 @@ pub enum Value {
     Opaque,
 }
 
+#[tactic(auto, unfolding(crate::specs::Value::header_shape))]
 fn header_shape(kind: u8) -> Shape
     ensures { result ≡ header_shape kind }
 {
-    if kind == 0x00 {
-        return Shape::Half;
+    match kind {
+        0x01 => Shape::Uuid,
+        0x04 | 0x13 => Shape::Time,
+        0x00 => Shape::Half,
+        0x02 | 0x03 | 0x05..=0x0b | 0x0f..=0x11 => Shape::Text,
+        _ => Shape::Opaque,
     }
-    if kind == 0x01 {
-        return Shape::Uuid;
-    }
-    if kind == 0x04 {
-        return Shape::Time;
-    }
-    if kind < 0x0c {
-        return Shape::Text;
-    }
-    if kind < 0x0f {
-        return Shape::Opaque;
-    }
-    if kind < 0x12 {
-        return Shape::Text;
-    }
-    if kind == 0x13 {
-        return Shape::Time;
-    }
-    Shape::Opaque
 }
 
-// The types up to 0c.
-fn low_shape(kind: u8) -> Shape
-    requires { kind < 0x0d }
-    ensures { result ≡ record_shape kind }
-{
-    if kind == 0x00 {
-        return Shape::Opaque;
-    }
-    if kind == 0x01 {
-        return Shape::Uuid;
-    }
-    if kind < 0x07 {
-        return Shape::Text;
-    }
-    if kind == 0x0b {
-        return Shape::Opaque;
-    }
-    Shape::Time
-}
-
+#[tactic(auto, unfolding(crate::specs::Value::record_shape))]
 fn record_shape(kind: u8) -> Shape
     ensures { result ≡ record_shape kind }
 {
-    if kind < 0x0d {
-        return low_shape(kind);
+    match kind {
+        0x01 => Shape::Uuid,
+        0x07..=0x0a | 0x0c => Shape::Time,
+        0x11 | 0x19 => Shape::Word,
+        0x13 | 0x17 => Shape::Half,
+        0x15 => Shape::Flag,
+        0x02..=0x06 | 0x0d..=0x10 | 0x12 | 0x14 | 0x16 | 0x18 | 0x1c..=0x20 => Shape::Text,
+        _ => Shape::Opaque,
     }
-    if kind == 0x11 {
-        return Shape::Word;
-    }
-    if kind == 0x13 {
-        return Shape::Half;
-    }
-    if kind == 0x15 {
-        return Shape::Flag;
-    }
-    if kind == 0x17 {
-        return Shape::Half;
-    }
-    if kind < 0x19 {
-        return Shape::Text;
-    }
-    if kind == 0x19 {
-        return Shape::Word;
-    }
-    if kind < 0x1c {
-        return Shape::Opaque;
-    }
-    if kind < 0x21 {
-        return Shape::Text;
-    }
-    Shape::Opaque
 }
 
-fn uuid(d: &[u8]) -> Value
-    ensures { result ≡ shaped_of Shape.Uuid d.now }
-{
-    if d.len() != 16 {
-        return Value::Misshapen;
-    }
-    let a = words::numbers::low(d[0], d[1], d[2], d[3]);
-    let b = words::numbers::low(d[4], d[5], d[6], d[7]);
-    let c = words::numbers::low(d[8], d[9], d[10], d[11]);
-    let e = words::numbers::low(d[12], d[13], d[14], d[15]);
-    Value::Uuid(words::numbers::joined(a, b), words::numbers::joined(c, e))
-}
-
-fn time(d: &[u8]) -> Value
-    ensures { result ≡ shaped_of Shape.Time d.now }
-{
-    if d.len() != 4 {
-        return Value::Misshapen;
-    }
-    Value::Time(words::numbers::low(d[0], d[1], d[2], d[3]))
-}
-
-fn word(d: &[u8]) -> Value
-    ensures { result ≡ shaped_of Shape.Word d.now }
-{
-    if d.len() != 4 {
-        return Value::Misshapen;
-    }
-    Value::Number(words::numbers::low(d[0], d[1], d[2], d[3]))
-}
-
-fn half(d: &[u8]) -> Value
-    ensures { result ≡ shaped_of Shape.Half d.now }
-{
-    if d.len() != 2 {
-        return Value::Misshapen;
-    }
-    Value::Number(words::numbers::low(d[0], d[1], 0, 0))
-}
-
-fn flag(d: &[u8]) -> Value
-    ensures { result ≡ shaped_of Shape.Flag d.now }
-{
-    if d.len() != 1 {
-        return Value::Misshapen;
-    }
-    Value::Flag(d[0] != 0)
-}
-
-fn plain(d: &[u8]) -> Value
+fn textual(d: &[u8]) -> Value
     ensures { result ≡ shaped_of Shape.Text d.now }
 {
     match text::goes_wrong(d) {
-        text::Wrong::Nowhere => Value::Text,
-        text::Wrong::At(n) => Value::BadText(n),
+        None => Value::Text,
+        Some(n) => Value::BadText(n),
     }
 }
 
 // The value of data that is neither empty nor an END's.
+#[tactic(auto, using(words::proofs::Places::whole_two), unfolding(words::specs::Numbers::number_low))]
 fn shaped(s: Shape, d: &[u8]) -> Value
     ensures { result ≡ shaped_of s d.now }
 {
-    match s {
-        Shape::Uuid => uuid(d),
-        Shape::Time => time(d),
-        Shape::Word => word(d),
-        Shape::Half => half(d),
-        Shape::Flag => flag(d),
-        Shape::Text => plain(d),
-        Shape::Opaque => Value::Opaque,
+    match (s, d.len()) {
+        (Shape::Uuid, 16) => Value::Uuid(Uuid::read(d)),
+        (Shape::Time, 4) => Value::Time(word_at(d, 0)),
+        (Shape::Word, 4) => Value::Number(word_at(d, 0)),
+        (Shape::Half, 2) => Value::Number(u32::from(u16::from_le_bytes([d[0], d[1]]))),
+        (Shape::Flag, 1) => Value::Flag(d[0] != 0),
+        (Shape::Text, _) => textual(d),
+        (Shape::Opaque, _) => Value::Opaque,
+        _ => Value::Misshapen,
     }
-}
-
-// By the list of values, before it is amended.
-fn listed(in_record: bool, kind: u8, d: &[u8]) -> Value
-    ensures { result ≡ listed_of in_record kind d.now }
-{
-    if kind == 0xff {
-        return Value::End;
-    }
-    if d.len() == 0 {
-        return Value::Empty;
-    }
-    if in_record {
-        return shaped(record_shape(kind), d);
-    }
-    shaped(header_shape(kind), d)
 }
 
 // The value of an old save stamp: hex digits, the highest first.
+#[tactic(auto, using(crate::proofs::Stamps::stamp_small))]
 fn stamped(d: &[u8]) -> Value
     requires { length d.now ≡ 8 }
     ensures { result ≡ stamp_of d.now }
 {
     if words::hex::all_digits(d) {
-        return Value::Time(words::hex::number(d));
+        Value::Time(words::hex::number(d))
+    } else {
+        Value::Misshapen
     }
-    Value::Misshapen
 }
 
+// What data of a type stand for, in a record or in the header. The two come apart, since callers have them so, or as literals (true, 0x01): a struct of them
+// would be made for this call alone.
+#[tactic(auto, unfolding(crate::specs::Value::value_of))]
 pub fn value_of(in_record: bool, kind: u8, d: &[u8]) -> Value
     ensures { result ≡ value_of in_record kind d.now }
 {
-    if crate::stamp::old_stamp(in_record, kind, d.len()) {
-        return stamped(d);
+    if old_stamp(in_record, kind, d.len()) {
+        stamped(d)
+    } else if kind == 0xff {
+        Value::End
+    } else if d.is_empty() {
+        Value::Empty
+    } else if in_record {
+        shaped(record_shape(kind), d)
+    } else {
+        shaped(header_shape(kind), d)
     }
-    listed(in_record, kind, d)
 }

@@ -2,7 +2,6 @@ pub mod Glue
 pub mod Tables
 pub mod PartLaws
 pub mod Markers
-pub mod SizeTests
 pub mod Passed
 pub mod Accepted
 pub mod Written

@@ -1,16 +1,21 @@
 -- The first marker stands right behind the body exactly when no block of the body is the marker: block by block.
-use Prim.Native.Nat.{ℕ, zero, suc, ◌+◌, ◌-◌, ◌*◌, ◌<◌, ◌≤◌}
+use Prim.Native.Nat.{ℕ, zero, suc, ◌+◌, ◌*◌, ◌<◌, ◌≤◌}
 use mathlib.Core.Path.{◌≡◌, refl, sym, ap, ◌∙◌}
 use mathlib.Core.Bool.{Bool, true, false, cond, ◌&&◌, not}
 use mathlib.Core.List.{List, [], ◌∷◌, ◌++◌}
 use native.Mathlib.Omega.{arith}
-use borrow.Author.Tests.{not-true}
+use borrow.Author.Tests.{not-true, lt-ltb, le-ltb, ltb-false, ne_eqb, eqb-true, eqb-false}
 use lib.ListN.{length, take, drop, length-drop}
-use lib.Dec.{eqb, eqb-zero-suc, eqb-suc-suc}
+use lib.Dec.{ltb, eqb, eqb-zero-suc, eqb-suc-suc}
 use lib.Seq.{drop-drop, take_at, take-append-le, drop-append-le}
+use Rattle.std.specs.Cmp.Lexicographic.{pointwise}
+use Rattle.std.specs.List.{position_or_len}
+use Rattle.std.specs.Simd.{first_chunks}
+use Rattle.std.specs.Prelude.{Some, None, is_some}
+use Rattle.std.specs.Option.{option_eq}
 use Rattle.words.specs.Slices.{same}
-use Rattle.words.proofs.SliceLaws.{same_true, same_refl}
-use Rattle.file.specs.Layout.{marker, first_marker}
+use Rattle.words.proofs.SliceLaws.{same_true, same_refl, same_pointwise}
+use Rattle.file.specs.Layout.{marker, first_marker, marked_at}
 use Rattle.file.specs.Writing.{clear}
 use Rattle.file.proofs.Glue.{and_true}
 
@@ -86,53 +91,16 @@ each_clear (suc n) l h =
     rw (apart (take 16 l) marker (h 0 (omega arith)))
     (each_clear n (drop 16 l) (λ j hj e. h (suc j) (omega arith) (rw (next_block j l) e)))
 
--- the scan: what is found from block j on, where none before it is the marker
-abbrev pub Scanned : ℕ → List ℕ → ℕ → Type 0
-Scanned n l j = first_marker n l ≡ j + first_marker (n - j) (drop (16 * j) l)
+-- std's search over the blocks
+one_block : (t u : Bool) (k n : ℕ) → t ≡ u → k ≡ n → cond (not t) (1 + k) 0 ≡ cond u 0 (suc n)
+one_block true u k n e f = rw (← e) refl
+one_block false u k n e f = rw (← e) (omega arith)
 
-pub scan_start : (n : ℕ) (l : List ℕ) → Scanned n l 0
-scan_start n l = let e : n - 0 ≡ n = omega arith in rw e (omega arith)
-
-scan_here : (m : ℕ) (l : List ℕ) → same (take 16 l) marker ≡ true → first_marker (suc m) l ≡ 0
+pub searched : (m : List ℕ) → m ≡ marker → (n : ℕ) (l : List ℕ) → position_or_len (λ b. pointwise eqb b m) (first_chunks 16 n l) ≡ first_marker n l
 unfolding first_marker
-scan_here m l e = rw e
-
-scan_past : (m : ℕ) (l : List ℕ) → same (take 16 l) marker ≡ false → first_marker (suc m) l ≡ suc (first_marker m (drop 16 l))
-unfolding first_marker
-scan_past m l e = rw e
-
-scan_end : (l : List ℕ) → first_marker 0 l ≡ 0
-unfolding first_marker
-scan_end l = refl
-
-pub scan_stops : (n j : ℕ) (l : List ℕ) → j < n → Scanned n l j → same (take 16 (drop (16 * j) l)) marker ≡ true → j ≡ first_marker n l
-scan_stops n j l h s e =
-    let k : n - j ≡ suc (n - (j + 1)) = omega arith in
-    let z : first_marker (n - j) (drop (16 * j) l) ≡ 0 = ap (λ (m : ℕ). first_marker m (drop (16 * j) l)) k ∙ scan_here (n - (j + 1)) (drop (16 * j) l) e in
-    omega arith
-
-pub scan_goes : (n j : ℕ) (l : List ℕ) → j < n → Scanned n l j → same (take 16 (drop (16 * j) l)) marker ≡ false → Scanned n l (j + 1)
-scan_goes n j l h s e =
-    let k : n - j ≡ suc (n - (j + 1)) = omega arith in
-    let i : 16 * j + 16 ≡ 16 * (j + 1) = omega arith in
-    let z : first_marker (n - j) (drop (16 * j) l) ≡ suc (first_marker (n - (j + 1)) (drop (16 * (j + 1)) l)) =
-    ap (λ (m : ℕ). first_marker m (drop (16 * j) l)) k
-    ∙ scan_past (n - (j + 1)) (drop (16 * j) l) e
-    ∙ ap (λ (x : List ℕ). suc (first_marker (n - (j + 1)) x)) (drop-drop 16 (16 * j) l ∙ ap (λ (m : ℕ). drop m l) i) in
-    omega arith
-
-pub scan_ends : (n j : ℕ) (l : List ℕ) → n ≤ j → j ≤ n → Scanned n l j → n ≡ first_marker n l
-scan_ends n j l h k s =
-    let e : n - j ≡ 0 = omega arith in
-    let z : first_marker (n - j) (drop (16 * j) l) ≡ 0 = ap (λ (m : ℕ). first_marker m (drop (16 * j) l)) e ∙ scan_end (drop (16 * j) l) in
-    omega arith
-
--- the block, as the code takes it
-pub block_same : (j : ℕ) (l m : List ℕ) {b t : Bool} → b ≡ same (take (16 * j + 16 - 16 * j) (drop (16 * j) l)) m → m ≡ marker → b ≡ t
-    → same (take 16 (drop (16 * j) l)) marker ≡ t
-block_same j l m e f g =
-    let k : 16 ≡ 16 * j + 16 - 16 * j = omega arith in
-    ap (λ (n : ℕ). same (take n (drop (16 * j) l)) marker) k ∙ ap (same (take (16 * j + 16 - 16 * j) (drop (16 * j) l))) (sym f) ∙ sym e ∙ g
+searched m e zero l = refl
+searched m e (suc n) l =
+    one_block _ _ _ _ (same_pointwise (take 16 l) m ∙ ap (same (take 16 l)) e) (searched m e n (drop 16 l))
 
 -- none of n blocks is the marker exactly where the scan comes to n
 first_clear : (b : Bool) (k n : ℕ) → eqb (cond b 0 (suc k)) (suc n) ≡ not b && eqb k n
@@ -144,3 +112,32 @@ unfolding first_marker clear
 clear_is zero l = refl
 clear_is (suc n) l =
     first_clear (same (take 16 l) marker) (first_marker n (drop 16 l)) n ∙ ap (λ (b : Bool). not (same (take 16 l) marker) && b) (clear_is n (drop 16 l))
+
+-- ---- the block's number as an Option
+marker_within : (n : ℕ) (l : List ℕ) → first_marker n l ≤ n
+unfolding first_marker
+marker_within zero l = omega arith
+marker_within (suc n) l = by (same (take 16 l) marker) (marker_within n (drop 16 l))
+  where
+    by : (b : Bool) → first_marker n (drop 16 l) ≤ n → cond b 0 (suc (first_marker n (drop 16 l))) ≤ suc n
+    by true h = omega arith
+    by false h = omega arith
+
+-- there is one exactly where not all of the n blocks are another
+pub marked_some : (n : ℕ) (l : List ℕ) → is_some (marked_at n l) ≡ not (clear n l)
+marked_some n l = by (eqb (first_marker n l) n) refl ∙ ap not (clear_is n l)
+  where
+    by : (t : Bool) → eqb (first_marker n l) n ≡ t → is_some (marked_at n l) ≡ not t
+    by true e = rw (le-ltb (first_marker n l) n (omega (arith, eqb-true (first_marker n l) n e)))
+    by false e = rw (lt-ltb (first_marker n l) n (below (eqb-false (first_marker n l) n e) (marker_within n l)))
+      where
+        below : (first_marker n l ≡ n → ⊥) → first_marker n l ≤ n → first_marker n l < n
+        below a b = omega arith
+
+-- it is number k, which is one of them, exactly where the definition gives k
+pub marked_number : (n k : ℕ) (l : List ℕ) → k < n → option_eq eqb (marked_at n l) (Some k) ≡ eqb (first_marker n l) k
+marked_number n k l h = by (ltb (first_marker n l) n) refl
+  where
+    by : (t : Bool) → ltb (first_marker n l) n ≡ t → option_eq eqb (cond t (Some (first_marker n l)) None) (Some k) ≡ eqb (first_marker n l) k
+    by true e = refl
+    by false e = sym (ne_eqb (first_marker n l) k (λ z. omega (arith, ltb-false (first_marker n l) n e)))

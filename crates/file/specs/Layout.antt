@@ -1,5 +1,5 @@
 -- The V3 file by offset (document 01, "The file, by offset"): its parts, and the parts put together again. The offsets of all parts stand here.
-use Rattle.std.specs.Prelude.{ℕ, zero, suc, ◌-◌, Bool, cond, not, List, [], ◌∷◌, ◌++◌, length, take, drop}
+use Rattle.std.specs.Prelude.{ℕ, zero, suc, ◌-◌, Bool, cond, not, List, [], ◌∷◌, ◌++◌, length, take, drop, ltb, Option, Some, None}
 use Rattle.words.specs.Slices.{same}
 
 pub record Parts : Type 0 where
@@ -52,3 +52,7 @@ differ a b = not (same a b)
 unfoldable pub first_marker : ℕ → List ℕ → ℕ
 first_marker zero l = 0
 first_marker (suc n) l = cond (same (take 16 l) marker) 0 (suc (first_marker n (drop 16 l)))
+
+-- the number of that block, or None where none equals it
+abbrev pub marked_at : ℕ → List ℕ → Option ℕ
+marked_at n l = cond (ltb (first_marker n l) n) (Some (first_marker n l)) None

@@ -2,7 +2,8 @@
 use Prim.Native.Nat.{ℕ}
 use mathlib.Core.Path.{◌≡◌, refl}
 use mathlib.Core.List.{List, [], ◌∷◌, ◌++◌, map}
-use lib.ListN.{replicate}
+use lib.ListN.{length, replicate}
+use Rattle.std.specs.Prelude.{Option, Some, None, Ok, Err}
 use Rattle.words.specs.Members.{to}
 use Rattle.text.specs.Decision.{ends_whole, greatest, goes_wrong_of}
 use Rattle.fields.specs.Stored.{Stored}
@@ -12,9 +13,9 @@ use Rattle.body.specs.Sections.{first_data}
 use Rattle.rows.specs.Days.{days_between, days_of}
 use Rattle.rows.specs.Fit.{unfit}
 use Rattle.logins.specs.Record.{login_of, fault_of}
-use Rattle.logins.specs.Export.{checked_from, room_for}
-use Rattle.logins.specs.declared.Checked.TheVariants.{Fine, Fault}
-use Rattle.logins.specs.declared.Exported.TheVariants.{Rows, Refused, NoRoom}
+use Rattle.logins.specs.Export.{checked_from, room_for, or_room}
+use Rattle.logins.specs.declared.Fault.{Fault}
+use Rattle.logins.specs.declared.ExportRefusal.TheVariants.{Faulty, NoRoom}
 
 abbrev field : ℕ → List ℕ → Stored
 field k d = record { kind = k; content = d; fill = [] }
@@ -23,7 +24,7 @@ field k d = record { kind = k; content = d; fill = [] }
 abbrev plain : List Stored
 plain = field 0x01 (to 1 16) ∷ field 0x06 (0x70 ∷ []) ∷ field 0x03 (0x41 ∷ 0x42 ∷ []) ∷ []
 
-abbrev fault_with : List Stored → ℕ
+abbrev fault_with : List Stored → Option ℕ
 fault_with fs = fault_of (fs ++ plain)
 
 -- 80 and 81 bytes, 72 and 73; a zero byte; BadText; an expiry of 0, 3, 4 and 5 bytes
@@ -41,7 +42,7 @@ sizes : map fault_with
     ∷ (field 0x0a (0 ∷ 0 ∷ 0 ∷ 0 ∷ []) ∷ [])
     ∷ (field 0x0a (0 ∷ 0 ∷ 0 ∷ 0 ∷ 0 ∷ []) ∷ [])
     ∷ [])
-    ≡ 0 ∷ 0x03 ∷ 0 ∷ 0x04 ∷ 0 ∷ 0x02 ∷ 0x04 ∷ 0x04 ∷ 0 ∷ 0x0a ∷ 0 ∷ 0x0a ∷ []
+    ≡ None ∷ Some 0x03 ∷ None ∷ Some 0x04 ∷ None ∷ Some 0x02 ∷ Some 0x04 ∷ Some 0x04 ∷ None ∷ Some 0x0a ∷ None ∷ Some 0x0a ∷ []
 unfolding fault_of unfit value_of record_shape first_data ends_whole greatest goes_wrong_of
 sizes = refl
 
@@ -53,24 +54,28 @@ firsts : map fault_with
     ∷ (field 0x0a (0 ∷ []) ∷ field 0x02 (0xff ∷ []) ∷ field 0x04 (0xff ∷ []) ∷ [])
     ∷ (field 0x0a (0 ∷ []) ∷ field 0x02 (0xff ∷ []) ∷ field 0x04 (0xff ∷ []) ∷ field 0x03 (0xff ∷ []) ∷ [])
     ∷ [])
-    ≡ 0 ∷ 0x04 ∷ 0x02 ∷ 0x04 ∷ 0x03 ∷ []
+    ≡ None ∷ Some 0x04 ∷ Some 0x02 ∷ Some 0x04 ∷ Some 0x03 ∷ []
 unfolding fault_of unfit value_of record_shape first_data ends_whole greatest goes_wrong_of
 firsts = refl
 
--- the first record at fault is told, by its number from 0
-records : map (checked_from 0)
+abbrev second : ℕ → Fault
+second k = record { number = 1; kind = k }
+
+-- how many records there are, in an output for two; the first record at fault is told, by its number from 0
+records : map (λ us. or_room (checked_from 0 us) (room_for 512 (length us)))
     ([]
     ∷ (plain ∷ plain ∷ [])
     ∷ (plain ∷ (field 0x04 (0xff ∷ []) ∷ plain) ∷ (field 0x03 [] ∷ field 0x02 (0xff ∷ []) ∷ plain) ∷ [])
     ∷ [])
-    ≡ Fine 0 ∷ Fine 2 ∷ Fault 1 0x04 ∷ []
+    ≡ Ok 0 ∷ Ok 2 ∷ Err (Faulty (second 0x04)) ∷ []
 unfolding checked_from fault_of unfit value_of record_shape first_data ends_whole greatest goes_wrong_of
 records = refl
 
 -- no row needs no room; two rows need 512 bytes; a fault is told before a short output
-rooms : (map (room_for 0) (Fine 0 ∷ Fine 1 ∷ Fault 1 0x04 ∷ []) ≡ Rows 0 ∷ NoRoom ∷ Refused 1 0x04 ∷ [])
-    × (map (λ m. room_for m (Fine 2)) (511 ∷ 512 ∷ 513 ∷ []) ≡ NoRoom ∷ Rows 2 ∷ Rows 2 ∷ [])
-rooms = (refl, refl)
+rooms : (map (room_for 0) (0 ∷ 1 ∷ []) ≡ Ok 0 ∷ Err NoRoom ∷ [])
+    × (map (λ m. room_for m 2) (511 ∷ 512 ∷ 513 ∷ []) ≡ Err NoRoom ∷ Ok 2 ∷ Ok 2 ∷ [])
+    × (map (λ k. or_room k (room_for 0 2)) (Ok tt ∷ Err (second 0x04) ∷ []) ≡ Err NoRoom ∷ Err (Faulty (second 0x04)) ∷ [])
+rooms = (refl, refl, refl)
 
 -- the first group, user name and expiry count, absent ones are empty; at 5 seconds past 1970 the expiry is a day and a second ahead
 logins : map (login_of 5) (plain ∷ (field 0x02 (0x47 ∷ []) ∷ field 0x0a (0x86 ∷ 0x51 ∷ 0x01 ∷ 0x00 ∷ []) ∷ plain ++ (field 0x04 (0x55 ∷ []) ∷ field 0x04 (0x56 ∷ []) ∷ field 0x0a [] ∷ field 0x02 [] ∷ [])) ∷ [])

@@ -3,7 +3,6 @@ use Prim.Native.Nat.{ℕ, ◌^◌, ◌*◌, ◌<◌}
 use mathlib.Core.Path.{◌≡◌, refl, sym, ap, subst, ◌∙◌}
 use mathlib.Core.Bool.{Bool, true, false, cond}
 use mathlib.Core.List.{List, [], ◌∷◌}
-use native.Mathlib.Omega.{arith}
 use lib.Dec.{eqb}
 use lib.ListN.{length}
 use borrow.Author.Tests.{eqb-true, ne_eqb}
@@ -27,12 +26,12 @@ unfolding value_of record_shape
 time_small d e b h = by (eqb (length d) 0) (eqb (length d) 4) refl h
   where
     by : (z t : Bool) → eqb (length d) 4 ≡ t → cond z Value.Empty (cond t (Value.Time (number_low d)) Value.Misshapen) ≡ Value.Time e → e < 2 ^ 32
-    by true t i h = absurd (let z : ◌≡◌ {A = ℕ} 0 1 = cc in omega arith)
+    by true t i h = absurd (cc)
     by false true i h =
         let j : number_low d ≡ e = cc in
         let n : number_low d < 2 ^ (8 * 4) = subst (λ (k : ℕ). number_low d < 2 ^ (8 * k)) (eqb-true (length d) 4 i) (number_fits b) in
         subst (λ (x : ℕ). x < 2 ^ 32) j n
-    by false false i h = absurd (let z : ◌≡◌ {A = ℕ} 0 1 = cc in omega arith)
+    by false false i h = absurd (cc)
 
 days_never : (t : ℕ) → (days_of Value.Empty t ≡ 2147483647) × (days_of (Value.Time 0) t ≡ 2147483647)
 unfolding days_of

@@ -7,6 +7,7 @@ use native.Mathlib.Omega.{arith}
 use lib.Dec.{eqb}
 use lib.ListN.{length}
 use borrow.Author.Tests.{eqb-true}
+use Rattle.std.specs.Prelude.{Option, Some, None}
 use Rattle.words.specs.Each.{Each}
 use Rattle.fields.specs.Stored.{Stored}
 use Rattle.fields.specs.Value.{value_of}
@@ -17,10 +18,10 @@ use Rattle.rows.proofs.Rounding.{days_fit}
 use Rattle.logins.specs.Record.{login_of, fault_of}
 use Rattle.logins.specs.Says.{NoFault}
 
-no_fault : (a b c d : Bool) → ◌≡◌ {A = ℕ} (cond a 0x03 (cond b 0x04 (cond c 0x02 (cond d 0x0a 0)))) 0 → (a ≡ false) × (b ≡ false) × (c ≡ false)
-no_fault true b c d h = absurd (omega arith)
-no_fault false true c d h = absurd (omega arith)
-no_fault false false true d h = absurd (omega arith)
+no_fault : (a b c d : Bool) → ◌≡◌ {A = Option ℕ} (cond a (Some 0x03) (cond b (Some 0x04) (cond c (Some 0x02) (cond d (Some 0x0a) None)))) None → (a ≡ false) × (b ≡ false) × (c ≡ false)
+no_fault true b c d h = absurd (cc)
+no_fault false true c d h = absurd (cc)
+no_fault false false true d h = absurd (cc)
 no_fault false false false d h = (refl, refl, refl)
 
 first_sized : (k n : ℕ) (u : List Stored) → count k u ≡ 1 → Each (λ f. f.kind ≡ k → length f.content ≡ n) u → length (first_data k u) ≡ n
@@ -33,7 +34,7 @@ first_sized k n (f ∷ u) h z = by (eqb f.kind k) refl h z.0 (λ e. first_sized 
     by true e h g ih = g (eqb-true f.kind k e)
     by false e h g ih = ih (omega arith)
 
-fits : (t : ℕ) (u : List Stored) → GoodRecord u → fault_of u ≡ 0 → Fits (login_of t u)
+fits : (t : ℕ) (u : List Stored) → GoodRecord u → fault_of u ≡ None → Fits (login_of t u)
 unfolding login_of fault_of
 fits t u g h =
     let n = no_fault (unfit 0x03 80 (first_data 0x03 u)) (unfit 0x04 80 (first_data 0x04 u)) (unfit 0x02 72 (first_data 0x02 u)) (is_misshapen (value_of true 0x0a (first_data 0x0a u))) h in

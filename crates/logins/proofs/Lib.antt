@@ -1,6 +1,6 @@
 mod Checks
 mod Fills
-mod Answered
+pub mod Answered
 mod Verdict
 mod Fitting
 mod Expiry

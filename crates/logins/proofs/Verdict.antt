@@ -1,72 +1,84 @@
--- What a check of the records comes to: how many there are where nothing is refused, else the first at fault; in both directions, by recursion on the records.
+-- What a check of the records comes to: Ok where nothing is refused, else the first at fault; in both directions, by recursion on the records.
 use Prim.Native.Nat.{ℕ, suc, ◌+◌}
-use mathlib.Core.Path.{◌≡◌, refl, sym, ap, ◌∙◌}
+use mathlib.Core.Path.{◌≡◌, refl, sym, ap, subst, ◌∙◌}
 use mathlib.Core.Bool.{Bool, true, false, cond}
 use mathlib.Core.List.{List, [], ◌∷◌, ◌++◌}
 use native.Mathlib.Nat.{add-zero}
 use native.Mathlib.Omega.{arith}
-use lib.Dec.{eqb}
 use lib.ListN.{length}
-use borrow.Author.Tests.{eqb-true, eqb-false, eq-eqb, ne_eqb}
+use Rattle.std.specs.Prelude.{Option, Some, None, Ok, Err}
 use Rattle.fields.specs.Stored.{Stored}
 use Rattle.logins.specs.Record.{fault_of}
-use Rattle.logins.specs.Export.{checked_from}
+use Rattle.logins.specs.Export.{or_others, checked_from}
 use Rattle.logins.specs.Says.{NoFault, FaultyRecord}
-use Rattle.logins.specs.declared.Checked.TheVariants.{Fine, Fault}
-use Rattle.logins.proofs.Fills.{fine_next}
+use Rattle.logins.specs.declared.Fault.{Fault}
 
-pub checked_fine : (n m : ℕ) (us : List (List Stored)) → checked_from n us ≡ Fine m → NoFault us
-checked_fine n m [] e = tt
-checked_fine n m (u ∷ us) e = let x = fine_next n m u us e in (x.0, checked_fine (n + 1) m us x.1)
+-- a type of the four
+some_of : (a b c d : Bool) (k : ℕ) → cond a (Some 0x03) (cond b (Some 0x04) (cond c (Some 0x02) (cond d (Some 0x0a) None))) ≡ Some k → k ≡ 0 → ⊥
+some_of true b c d k h z = let i : 0x03 ≡ k = cc in omega arith
+some_of false true c d k h z = let i : 0x04 ≡ k = cc in omega arith
+some_of false false true d k h z = let i : 0x02 ≡ k = cc in omega arith
+some_of false false false true k h z = let i : 0x0a ≡ k = cc in omega arith
+some_of false false false false k h z = cc
 
-pub checked_fault : (n : ℕ) (us : List (List Stored)) (m k : ℕ) → checked_from n us ≡ Fault m k → (j : ℕ) × (m ≡ n + j) × FaultyRecord us j k
+fault_some : (u : List Stored) (k : ℕ) → fault_of u ≡ Some k → k ≡ 0 → ⊥
+unfolding fault_of
+fault_some u k h = some_of _ _ _ _ k h
+
+pub checked_fine : (n : ℕ) (us : List (List Stored)) → checked_from n us ≡ Ok tt → NoFault us
 unfolding checked_from
-checked_fault n [] m k e = absurd (let z : ◌≡◌ {A = ℕ} 0 1 = cc in omega arith)
-checked_fault n (u ∷ us) m k e = by (eqb (fault_of u) 0) refl e (checked_fault (n + 1) us m k)
+checked_fine n [] e = tt
+checked_fine n (u ∷ us) e = by (fault_of u) refl e (checked_fine (n + 1) us)
   where
-    by : (b : Bool) → eqb (fault_of u) 0 ≡ b → cond b (checked_from (n + 1) us) (Fault n (fault_of u)) ≡ Fault m k
-        → (checked_from (n + 1) us ≡ Fault m k → (j : ℕ) × (m ≡ n + 1 + j) × FaultyRecord us j k) → (j : ℕ) × (m ≡ n + j) × FaultyRecord (u ∷ us) j k
-    by true h e ih =
+    by : (o : Option ℕ) → fault_of u ≡ o → or_others o n (checked_from (n + 1) us) ≡ Ok tt → (checked_from (n + 1) us ≡ Ok tt → NoFault us) → (fault_of u ≡ None) × NoFault us
+    by None h e ih = (h, ih e)
+    by (Some k) h e ih = absurd (cc)
+
+pub checked_fault : (n : ℕ) (us : List (List Stored)) (f : Fault) → checked_from n us ≡ Err f → (j : ℕ) × (f.number ≡ n + j) × FaultyRecord us j f.kind
+unfolding checked_from
+checked_fault n [] f e = absurd (cc)
+checked_fault n (u ∷ us) f e = by (fault_of u) refl e (checked_fault (n + 1) us f)
+  where
+    by : (o : Option ℕ) → fault_of u ≡ o → or_others o n (checked_from (n + 1) us) ≡ Err f
+        → (checked_from (n + 1) us ≡ Err f → (j : ℕ) × (f.number ≡ n + 1 + j) × FaultyRecord us j f.kind) → (j : ℕ) × (f.number ≡ n + j) × FaultyRecord (u ∷ us) j f.kind
+    by None h e ih =
         let x = ih e in
-        let f = x.2 in (
+        let y = x.2 in (
           1 + x.0,
           omega (arith, x.1),
           record {
-            before = u ∷ f.before;
-            faulty = f.faulty;
-            others = f.others;
-            are = ap (◌∷◌ u) f.are;
-            number = omega (arith, f.number);
-            none_before = (eqb-true (fault_of u) 0 h, f.none_before);
-            field = f.field;
-            some = f.some;
+            before = u ∷ y.before;
+            faulty = y.faulty;
+            others = y.others;
+            are = ap (◌∷◌ u) y.are;
+            number = omega (arith, y.number);
+            none_before = (h, y.none_before);
+            field = y.field;
+            some = y.some;
           },
         )
-    by false h e ih =
-        let i : m ≡ n = cc in
-        let j : k ≡ fault_of u = cc in
-        (0, omega arith, record { before = []; faulty = u; others = us; are = refl; number = refl; none_before = tt; field = j; some = λ z. eqb-false (fault_of u) 0 h (sym j ∙ z) })
+    by (Some k) h e ih =
+        let i : record { number = n; kind = k } ≡ f = cc in
+        (0, omega (arith, ap (λ (x : Fault). x.number) i), subst (λ (x : Fault). FaultyRecord (u ∷ us) 0 x.kind) i (record { before = []; faulty = u; others = us; are = refl; number = refl; none_before = tt; field = h; some = fault_some u k h }))
 
-passed : (n : ℕ) (u : List Stored) (us : List (List Stored)) → fault_of u ≡ 0 → checked_from n (u ∷ us) ≡ checked_from (n + 1) us
+passed : (n : ℕ) (u : List Stored) (us : List (List Stored)) → fault_of u ≡ None → checked_from n (u ∷ us) ≡ checked_from (n + 1) us
 unfolding checked_from
-passed n u us h = rw (eq-eqb (fault_of u) 0 h)
+passed n u us h = rw h
 
-pub fine_checked : (n : ℕ) (us : List (List Stored)) → NoFault us → checked_from n us ≡ Fine (n + length us)
+pub fine_checked : (n : ℕ) (us : List (List Stored)) → NoFault us → checked_from n us ≡ Ok tt
 unfolding checked_from
-fine_checked n [] h = ap Fine (sym (add-zero n))
-fine_checked n (u ∷ us) h =
-    let z : n + 1 + length us ≡ n + suc (length us) = omega arith in
-    passed n u us h.0 ∙ fine_checked (n + 1) us h.1 ∙ ap Fine z
+fine_checked n [] h = refl
+fine_checked n (u ∷ us) h = passed n u us h.0 ∙ fine_checked (n + 1) us h.1
 
-stopped : (n : ℕ) (u : List Stored) (us : List (List Stored)) (k : ℕ) → k ≡ fault_of u → (k ≡ 0 → ⊥) → checked_from n (u ∷ us) ≡ Fault n k
+stopped : (n : ℕ) (u : List Stored) (us : List (List Stored)) (k : ℕ) → fault_of u ≡ Some k → checked_from n (u ∷ us) ≡ Err (record { number = n; kind = k })
 unfolding checked_from
-stopped n u us k e h = rw (ne_eqb (fault_of u) 0 (λ z. h (e ∙ z)), e)
+stopped n u us k e = rw e
 
-pub faulty_checked : (n : ℕ) (us : List (List Stored)) (m k : ℕ) → FaultyRecord us m k → checked_from n us ≡ Fault (n + m) k
-faulty_checked n us m k f = ap (checked_from n) f.are ∙ by n f.before f.none_before ∙ ap (λ (j : ℕ). Fault (n + j) k) (sym f.number)
+pub faulty_checked : (n : ℕ) (us : List (List Stored)) (m k : ℕ) → FaultyRecord us m k → checked_from n us ≡ Err (record { number = n + m; kind = k })
+faulty_checked n us m k f = ap (checked_from n) f.are ∙ by n f.before f.none_before ∙ ap (λ (j : ℕ). Err (record { number = n + j; kind = k })) (sym f.number)
   where
-    by : (n : ℕ) (before : List (List Stored)) → NoFault before → checked_from n (before ++ (f.faulty ∷ f.others)) ≡ Fault (n + length before) k
-    by n [] h = stopped n f.faulty f.others k f.field f.some ∙ ap (λ (j : ℕ). Fault j k) (sym (add-zero n))
+    by : (n : ℕ) (before : List (List Stored)) → NoFault before → checked_from n (before ++ (f.faulty ∷ f.others)) ≡ Err (record { number = n + length before; kind = k })
+    by n [] h = stopped n f.faulty f.others k f.field ∙ ap (λ (j : ℕ). Err (record { number = j; kind = k })) (sym (add-zero n))
     by n (u ∷ before) h =
         let z : n + 1 + length before ≡ n + suc (length before) = omega arith in
-        passed n u (before ++ (f.faulty ∷ f.others)) h.0 ∙ by (n + 1) before h.1 ∙ ap (λ (j : ℕ). Fault j k) z
+        passed n u (before ++ (f.faulty ∷ f.others)) h.0 ∙ by (n + 1) before h.1 ∙ ap (λ (j : ℕ). Err (record { number = j; kind = k })) z

@@ -1,5 +1,5 @@
 -- What an answer of an export says, over the records of a well-formed body (document 02, Q-6).
-use Rattle.std.specs.Prelude.{ℕ, ◌*◌, ◌<◌, ◌≤◌, ◌≡◌, true, List, [], ◌∷◌, ◌++◌, map, length, drop}
+use Rattle.std.specs.Prelude.{ℕ, ◌*◌, ◌<◌, ◌≤◌, ◌≡◌, true, List, [], ◌∷◌, ◌++◌, map, length, drop, None, Some, Result, Ok, Err}
 use Rattle.words.specs.Each.{Each}
 use Rattle.fields.specs.Stored.{Stored}
 use Rattle.fields.specs.Value.{value_of}
@@ -9,12 +9,12 @@ use Rattle.body.specs.WellFormed.{WellFormed}
 use Rattle.rows.specs.Login.{table_of}
 use Rattle.rows.specs.Days.{Rounded}
 use Rattle.logins.specs.Record.{login_of, fault_of}
-use Rattle.logins.specs.declared.Exported.{Exported}
-use Rattle.logins.specs.declared.Exported.TheVariants.{Rows, NotWellFormed, Refused, NoRoom}
+use Rattle.logins.specs.declared.ExportRefusal.{ExportRefusal}
+use Rattle.logins.specs.declared.ExportRefusal.TheVariants.{NotWellFormed, Faulty, NoRoom}
 
 -- nothing in the records is refused
 abbrev pub NoFault : List (List Stored) → Type 0
-NoFault us = Each (λ u. fault_of u ≡ 0) us
+NoFault us = Each (λ u. fault_of u ≡ None) us
 
 -- record n is the first of which something is refused, and k is the type of the field
 pub record FaultyRecord (records : List (List Stored)) (n k : ℕ) : Type 0 where
@@ -24,7 +24,7 @@ pub record FaultyRecord (records : List (List Stored)) (n k : ℕ) : Type 0 wher
   pub are : records ≡ before ++ (faulty ∷ others)
   pub number : n ≡ length before
   pub none_before : NoFault before
-  pub field : k ≡ fault_of faulty
+  pub field : fault_of faulty ≡ Some k
   pub some : k ≡ 0 → ⊥
 
 -- "Days are expiry minus the given now, .. rounded towards minus infinity; no expiry, or expiry 0, gives 2,147,483,647.": of the record u
@@ -43,11 +43,11 @@ pub record Written (body : List ℕ) (t : ℕ) (before : List ℕ) (n : ℕ) (af
   pub table : after ≡ table_of (map (login_of t) well_formed.records) ++ drop (256 * n) before
 
 -- what each answer says; the output holds `before` at first, and `after` when the call is over
-abbrev pub ExportSays : List ℕ → ℕ → List ℕ → Exported → List ℕ → Type 0
-ExportSays body t before (Rows n) after = Written body t before n after
-ExportSays body t before NotWellFormed after = (WellFormed body → ⊥) × (after ≡ before)
-ExportSays body t before (Refused n k) after = (w : WellFormed body) × FaultyRecord w.records n k × (after ≡ before)
-ExportSays body t before NoRoom after =
+abbrev pub ExportSays : List ℕ → ℕ → List ℕ → Result ℕ ExportRefusal → List ℕ → Type 0
+ExportSays body t before (Ok n) after = Written body t before n after
+ExportSays body t before (Err NotWellFormed) after = (WellFormed body → ⊥) × (after ≡ before)
+ExportSays body t before (Err (Faulty f)) after = (w : WellFormed body) × FaultyRecord w.records f.number f.kind × (after ≡ before)
+ExportSays body t before (Err NoRoom) after =
     (w : WellFormed body) × NoFault w.records × (length before < 256 * length w.records) × (after ≡ before)
 
 -- the records agree in their UUID and in the first group, title, user name and expiry

@@ -1,143 +1,144 @@
 // The one page login table of a body.
 #![tactic(auto)]
 
-use body::records;
-use body::records::Firsts;
+use body::NotWellFormed;
+use body::records::{Firsts, content, record_at};
+use rows::Row;
+use rows::column::{DAYS, GROUP, TITLE, USER};
+use rows::days::days;
+use rows::fit::{misshapen, unfit};
 
 pub mod answers;
 
-ghost use Rattle.std.specs.Prelude.{◌≡◌, true, ◌++◌, ◌*◌, ◌≤◌, length, drop};
+ghost use Rattle.std.specs.Prelude.{◌≡◌, true, ◌*◌, length};
 ghost use Rattle.body.specs.Decision.{is_well_formed};
 ghost use Rattle.rows.specs.Login.{row_of};
-ghost use Rattle.logins.specs.Export.{body_records, checked_from, table_from, room_for, login_at, fault_at, Exports};
+ghost use Rattle.logins.specs.Export.{body_records, checked_from, table_from, login_at, fault_at, Exports};
+ghost use Rattle.logins.specs.declared.ExportRefusal.TheVariants as refusal;
 
-// How many rows were written, or why none was: the body is not well formed; the table can't hold a record, by its number, for a
-// field, by its type; the output is too short.
-#[derive(Clone, Copy)]
-pub enum Exported {
-    Rows(usize),
+// A record that the table can't hold, by its number, and the type of the field for which it can't.
+#[derive(Clone, Copy, Debug, PartialEq, Eq)]
+pub struct Fault {
+    pub number: usize,
+    pub kind: u8,
+}
+
+// Why no table was written: the body is not well formed; the table can't hold a record; the output is too short.
+#[derive(Clone, Copy, Debug, PartialEq, Eq)]
+pub enum ExportRefusal {
     NotWellFormed,
-    Refused(usize, u8),
+    Faulty(Fault),
     NoRoom,
 }
 
-// How many records there are, or the first at fault.
-#[derive(Clone, Copy)]
-pub enum Checked {
-    Fine(usize),
-    Fault(usize, u8),
+impl From<NotWellFormed> for ExportRefusal {
+    ghost from_gives = { λ _ r. r ≡ refusal.NotWellFormed };
+
+    fn from(_x: NotWellFormed) -> ExportRefusal {
+        ExportRefusal::NotWellFormed
+    }
 }
 
-// The type of the first field, in the table's order, that it can't hold, or 0.
-fn fault(body: &[u8], x: Firsts) -> u8
-    ensures { result ≡ fault_at body.now x }
+impl From<Fault> for ExportRefusal {
+    ghost from_gives = { λ fault r. r ≡ refusal.Faulty fault };
+
+    fn from(fault: Fault) -> ExportRefusal {
+        ExportRefusal::Faulty(fault)
+    }
+}
+
+// Its number for C.
+impl From<ExportRefusal> for u32 {
+    ghost use Rattle.logins.specs.Answers.{export_refusal_number};
+
+    ghost from_gives = { λ refusal n. n ≡ export_refusal_number refusal };
+
+    fn from(refusal: ExportRefusal) -> u32 {
+        match refusal {
+            ExportRefusal::NotWellFormed => 9,
+            ExportRefusal::Faulty(_) => 18,
+            ExportRefusal::NoRoom => 3,
+        }
+    }
+}
+
+// The type of the first field, in the table's order, that it can't hold.
+#[tactic(auto, unfolding(crate::specs::Export::fault_at))]
+fn fault_in(body: &[u8], firsts: Firsts) -> Option<u8>
+    ensures { result ≡ fault_at body.now firsts }
 {
-    let title = x.title;
-    let user = x.user;
-    let group = x.group;
-    let expiry = x.expiry;
-    if rows::fit::unfit(0x03, 80, records::content(body, title)) {
-        return 0x03;
+    if unfit(TITLE.kind, TITLE.room, content(body, firsts.title)) {
+        Some(TITLE.kind)
+    } else if unfit(USER.kind, USER.room, content(body, firsts.user)) {
+        Some(USER.kind)
+    } else if unfit(GROUP.kind, GROUP.room, content(body, firsts.group)) {
+        Some(GROUP.kind)
+    } else if misshapen(content(body, firsts.expiry)) {
+        Some(DAYS.kind)
+    } else {
+        None
     }
-    if rows::fit::unfit(0x04, 80, records::content(body, user)) {
-        return 0x04;
-    }
-    if rows::fit::unfit(0x02, 72, records::content(body, group)) {
-        return 0x02;
-    }
-    if rows::fit::misshapen(records::content(body, expiry)) {
-        return 0x0a;
-    }
-    0
 }
 
 // The row of a record, at the given time.
-fn row_of(body: &[u8], x: Firsts, time: u32) -> [u8; 256]
-    ensures { result ≡ row_of (login_at time body.now x) }
+#[tactic(auto, unfolding(crate::specs::Export::login_at))]
+fn row_of(body: &[u8], firsts: Firsts, time: u32) -> Row
+    ensures { result ≡ row_of (login_at time body.now firsts) }
 {
-    let uuid = x.uuid;
-    let title = x.title;
-    let user = x.user;
-    let group = x.group;
-    let expiry = x.expiry;
-    let days = rows::days::days(records::content(body, expiry), time);
     rows::lay(
-        records::content(body, uuid),
-        records::content(body, title),
-        records::content(body, user),
-        records::content(body, group),
-        days,
+        content(body, firsts.uuid),
+        content(body, firsts.title),
+        content(body, firsts.user),
+        content(body, firsts.group),
+        days(content(body, firsts.expiry), time),
     )
 }
 
-// Whether the table can hold every record. Nothing is written before this is known.
-fn check(body: &[u8]) -> Checked
-    requires { is_well_formed body.now ≡ true }
+// Whether the table can hold each of so many records. Nothing is written before this is known.
+fn check(body: &[u8], count: usize) -> Result<(), Fault>
+    requires formed { is_well_formed body.now ≡ true }
+    requires all { count ≡ length (body_records body.now) }
     ensures { result ≡ checked_from 0 (body_records body.now) }
 {
-    let header = records::record_at(body, 0);
-    let mut at = header.next;
-    let mut number: usize = 0;
-    while at < body.len() {
-        let r = records::record_at(body, at);
-        let firsts = r.firsts;
-        let kind = fault(body, firsts);
-        if kind != 0 {
-            return Checked::Fault(number, kind);
+    let mut next = record_at(body, 0).next;
+    for number in 0..count {
+        let r = record_at(body, next);
+        if let Some(kind) = fault_in(body, r.firsts) {
+            return Err(Fault { number, kind });
         }
-        number += 1;
-        at = r.next;
+        next = r.next;
     }
-    Checked::Fine(number)
+    Ok(())
 }
 
-// The row of each record, one after the other.
-fn fill(body: &[u8], time: u32, output: &mut [u8], count: usize)
+// The row of each record, one after the other, in a table of just this length.
+// By ranges: of a memory that std lends in chunks nothing is known afterwards.
+fn fill(body: &[u8], time: u32, table: &mut [u8])
     requires formed { is_well_formed body.now ≡ true }
-    requires fine { checked_from 0 (body_records body.now) ≡ Checked.Fine count }
-    requires room { 256 * count ≤ length output.old }
-    ensures { output.new ≡ table_from time (body_records body.now) ++ drop (256 * count) output.old }
+    requires all { length table.old ≡ 256 * length (body_records body.now) }
+    ensures { table.new ≡ table_from time (body_records body.now) }
 {
-    let header = records::record_at(body, 0);
-    let mut at = header.next;
-    let mut to: usize = 0;
-    while at < body.len() {
-        let r = records::record_at(body, at);
-        let firsts = r.firsts;
-        let row = row_of(body, firsts, time);
-        let end = to + 256;
-        words::slices::copy(&mut output[to..end], &row);
-        to = end;
-        at = r.next;
+    let mut next = record_at(body, 0).next;
+    for number in 0..table.len() / 256 {
+        let r = record_at(body, next);
+        let start = 256 * number;
+        let end = start + 256;
+        table[start..end].copy_from_slice(&row_of(body, r.firsts, time));
+        next = r.next;
     }
 }
 
-// What a check comes to for an output of so many bytes.
-fn room_for(room: usize, c: Checked) -> Exported
-    ensures { result ≡ room_for room c }
-{
-    match c {
-        Checked::Fault(number, kind) => Exported::Refused(number, kind),
-        Checked::Fine(count) => {
-            if room / 256 < count {
-                return Exported::NoRoom;
-            }
-            Exported::Rows(count)
-        }
-    }
-}
-
-// The table of a body at the given time. Refused, no byte of the output changes.
-pub fn export(body: &[u8], time: u32, output: &mut [u8]) -> Exported
+// The table of a body at the given time, and how many rows it has. Refused, no byte of the output changes.
+#[tactic(auto, using(crate::proofs::Answered::judged_formed, crate::proofs::Answered::judged_many))]
+pub fn export(body: &[u8], time: u32, output: &mut [u8]) -> Result<usize, ExportRefusal>
     ensures { Exports body.now time output.old result output.new }
 {
-    if body::well_formed(body) {
-        let a = room_for(output.len(), check(body));
-        let Exported::Rows(count) = a else {
-            return a;
-        };
-        fill(body, time, output, count);
-        return Exported::Rows(count);
+    let count = body::judge(body)?.records;
+    check(body, count)?;
+    let room = output.len() / 256;
+    if room < count {
+        return Err(ExportRefusal::NoRoom);
     }
-    Exported::NotWellFormed
+    fill(body, time, &mut output[..256 * count]);
+    Ok(count)
 }

@@ -1,7 +1,7 @@
 // The layers under the reader at the C boundary, for tests and benchmarks alone: the product does not link them.
 #![tactic(auto)]
 
-ghost use Rattle.std.specs.Prelude.{◌≡◌, ◌<◌, ◌≤◌, length};
+ghost use Rattle.std.specs.Prelude.{◌≡◌, length};
 ghost use Rattle.sha256.specs.Sha256.{sha256};
 ghost use Rattle.sha256.specs.Hmac.{hmac_of};
 ghost use Rattle.stretch.specs.Stretch.{start_of, stretched_of, key_of};
@@ -12,59 +12,37 @@ ghost use Rattle.uuids.specs.Uuids.{uuids_from, Repeats};
 ghost use Rattle.uuids.specs.Batches.{answer_of};
 
 use stretch::Stretcher;
-use uuids::Repeat;
 
 #[unsafe(no_mangle)]
 pub extern "C" fn probe_hash(m: &[u8], out: &mut [u8; 32])
     ensures { out.new ≡ sha256 m.now }
 {
-    let h = sha256::hash::hash(m);
-    *out = h;
+    *out = sha256::hash::hash(m);
 }
 
 #[unsafe(no_mangle)]
 pub extern "C" fn probe_hmac(key: &[u8], m: &[u8], out: &mut [u8; 32])
     ensures { out.new ≡ hmac_of key.now m.now }
 {
-    let h = sha256::hmac::hmac(key, m);
-    *out = h;
-}
-
-// Where the piece from i on ends; n is the message's length.
-fn until(i: usize, piece: usize, n: usize) -> usize
-    requires { i < n }
-    ensures { (i < result) × (result ≤ n) }
-{
-    if piece == 0 {
-        return i + 1;
-    }
-    if n - i <= piece {
-        return n;
-    }
-    i + piece
+    *out = sha256::hmac::hmac(key, m);
 }
 
 // The running hash of a message in pieces of that many bytes; 0 counts as 1.
 fn pieces(m: &[u8], piece: usize) -> [u8; 32]
     ensures { result ≡ sha256 m.now }
 {
-    let n = m.len();
-    let mut st = sha256::hash::start();
-    let mut i: usize = 0;
-    while i < n {
-        let e = until(i, piece, n);
-        st = sha256::hash::take_in(st, &m[i..e]);
-        i = e;
+    let mut st = sha256::Running::start();
+    for part in m.chunks(piece.max(1)) {
+        st = st.take_in(part);
     }
-    sha256::compression::digest(sha256::hash::finish(st))
+    sha256::compression::digest(st.finish())
 }
 
 #[unsafe(no_mangle)]
 pub extern "C" fn probe_pieces(m: &[u8], piece: usize, out: &mut [u8; 32])
     ensures { out.new ≡ sha256 m.now }
 {
-    let h = pieces(m, piece);
-    *out = h;
+    *out = pieces(m, piece);
 }
 
 // The compressions spent; `out` holds P'.
@@ -79,8 +57,7 @@ pub extern "C" fn probe_stretch(
     ensures memory { out.new ≡ key_of (stretched_of iter (start_of passphrase.now salt.now)) }
 {
     let s = Stretcher::start(passphrase, salt).stretched(iter);
-    let k = s.key();
-    *out = k;
+    *out = s.key();
     s.count
 }
 
@@ -100,14 +77,11 @@ pub extern "C" fn probe_encrypt(key: &[u8; 32], iv: &[u8; 16], from: &[u8], to: 
     chain::cbc_encrypt(key, iv, from, to);
 }
 
-// The number of the first UUID, from the place on, that an earlier one is the same as; the number of bytes where no two are.
+// The number of the first UUID, from the place on, that an earlier one is the same as; the number of bytes where no two are, since C
+// has no Option.
 #[unsafe(no_mangle)]
 pub extern "C" fn probe_repeated(body: &[u8], from: usize) -> usize
     ensures { Repeats (uuids_from body.now from) (answer_of result (length body.now)) }
 {
-    let none = body.len();
-    let Repeat::At(number) = uuids::repeated(body, from) else {
-        return none;
-    };
-    number
+    uuids::repeated(body, from).unwrap_or(body.len())
 }

@@ -1,30 +1,29 @@
 -- A call, from its two passes: all records go in and the state is that of the definition, or the first at fault is told and every byte is as before.
-use Prim.Native.Nat.{ℕ, zero, suc, ◌+◌, ◌*◌, ◌-◌, ◌/◌, ◌<◌, ◌≤◌}
+use Prim.Native.Nat.{ℕ, zero, suc, ◌+◌, ◌*◌, ◌-◌, ◌<◌, min}
 use mathlib.Core.Path.{◌≡◌, refl, sym, ap, subst, ◌∙◌}
 use mathlib.Core.Bool.{Bool, true, false, cond}
 use mathlib.Core.Logic.{◌↔◌, ⊎_elim}
 use mathlib.Core.List.{List}
 use native.Mathlib.Omega.{arith}
-use lib.Dec.{ltb}
 use lib.ListN.{length, take, length-take, length-drop}
+use Rattle.std.specs.Prelude.{Ok, Err}
 use Rattle.words.specs.Numbers.{Bytes}
 use Rattle.replay.specs.Trace.{record_at, count_of}
-use Rattle.replay.specs.State.{place_of, is_state}
-use Rattle.replay.specs.Replay.{goes_in, recorded_to, then, answered_to, left_by, replay_of, state_after}
-use Rattle.replay.specs.Waiting.{reserved_to, Reserves, swept_to, Owned, AllOwned}
+use Rattle.replay.specs.State.{is_state}
+use Rattle.replay.specs.declared.ReplayRefusal.TheVariants.{Record, NotAState}
+use Rattle.replay.specs.Replay.{Replayed, goes_in, recorded_to, then, answered_to, left_by, replay_of, state_after}
+use Rattle.replay.specs.Waiting.{reserved_to, ReservesTo, FaultAt, swept_to, Owned, AllOwned}
 use Rattle.replay.specs.Calls.{Replays}
-use Rattle.replay.specs.declared.Replayed.{Replayed}
-use Rattle.replay.specs.declared.Replayed.TheVariants.{Accepted, Refused, NotAState}
 use Rattle.words.proofs.Either.{lt_or_ge}
 use Rattle.replay.proofs.Tests.{no}
-use Rattle.replay.proofs.Fine.{cut_not_fine, record_bytes}
+use Rattle.replay.proofs.Fine.{fine_whole, record_bytes}
 use Rattle.replay.proofs.Tidy.{Tidy, is_tidy, tidy_is}
 use Rattle.replay.proofs.Passes.{AllGo, passed, tests_agree, settled, goes_both, record_tidy}
-use Rattle.replay.proofs.Verdicts.{never, never_state, never_refused}
+use Rattle.replay.proofs.Verdicts.{never, never_state}
 use Rattle.replay.proofs.Swept.{swept_back, reserved_to_lem}
 
 -- a fault stays
-stays : (s t : List ℕ) (m n k : ℕ) → answered_to s t m ≡ Refused n → answered_to s t (k + m) ≡ Refused n
+stays : (s t : List ℕ) (m n k : ℕ) → answered_to s t m ≡ Err (Record n) → answered_to s t (k + m) ≡ Err (Record n)
 unfolding answered_to
 stays s t m n zero h = let z : 0 + m ≡ m = omega arith in ap (answered_to s t) z ∙ h
 stays s t m n (suc k) h =
@@ -35,19 +34,19 @@ module _ (s t : List ℕ) (i : is_state s ≡ true) (b : Bytes t) where
   v : Tidy s
   v = is_tidy s i
 
-  all_accepted : (n : ℕ) → AllGo t b s v n → answered_to s t n ≡ Accepted
+  all_accepted : (n : ℕ) → AllGo t b s v n → answered_to s t n ≡ Ok tt
   unfolding answered_to
   all_accepted zero g = refl
   all_accepted (suc n) g =
       let h : AllGo t b s v n = λ k l. g k (omega arith) in
       ap (λ (a : Replayed). then a (goes_in (recorded_to s t n) (record_at t n)) n) (all_accepted n h)
-      ∙ ap (λ (x : Bool). then Accepted x n) (tests_agree t b s v n h ∙ g n (omega arith))
+      ∙ ap (λ (x : Bool). then (Ok tt) x n) (tests_agree t b s v n h ∙ g n (omega arith))
 
-  fault : (n : ℕ) → AllGo t b s v n → goes_in (reserved_to s t n) (record_at t n) ≡ false → answered_to s t (suc n) ≡ Refused n
+  fault : (n : ℕ) → AllGo t b s v n → goes_in (reserved_to s t n) (record_at t n) ≡ false → answered_to s t (suc n) ≡ Err (Record n)
   unfolding answered_to
   fault n g f =
       ap (λ (a : Replayed). then a (goes_in (recorded_to s t n) (record_at t n)) n) (all_accepted n g)
-      ∙ ap (λ (x : Bool). then Accepted x n) (tests_agree t b s v n g ∙ f)
+      ∙ ap (λ (x : Bool). then (Ok tt) x n) (tests_agree t b s v n g ∙ f)
 
   answer_is : replay_of s t ≡ answered_to s t (count_of t)
   unfolding replay_of
@@ -57,75 +56,68 @@ module _ (s t : List ℕ) (i : is_state s ≡ true) (b : Bytes t) where
   unfolding state_after
   after_is e = ap (λ (x : Replayed). left_by x s t) e
 
-  module _ (n : ℕ) (y : List ℕ) (r : Reserves s t n y) where
-    pub reserved_long : length y ≡ 131072
-    reserved_long = ap length r.is_state ∙ (passed t b s v n r.goes).long.long
+  -- every record has a place
+  module _ (y : List ℕ) (r : ReservesTo s t (count_of t) y) where
+    abbrev n : ℕ
+    n = count_of t
 
-    -- no record is left over
-    module _ (h : 32 * n ≡ length t) where
-      count : count_of t ≡ n
-      count = omega arith
+    -- the last is whole too
+    whole : 32 * n ≡ length t
+    whole = ⊎_elim last (λ g. omega arith) (lt_or_ge 0 n)
+      where
+        last : 0 < n → 32 * n ≡ length t
+        last l =
+            let k = n - 1 in
+            let f = fine_whole (record_at t k) (goes_both (reserved_to s t k) (record_at t k) (r.goes k (omega arith))).0 in
+            let m : length (record_at t k) ≡ min 32 (length t - 32 * k) = simp (length-take, length-drop) in
+            omega (arith, f, m)
 
-      -- each UUID has an entry, and keeps it
-      owned : (k : ℕ) → k < n → Owned (recorded_to (reserved_to s t n) t k) (take 16 (record_at t k))
-      owned k l =
-          let h = passed t b s v n r.goes in
-          (settled t b (reserved_to s t n) h.long k (λ j g. (goes_both (reserved_to s t j) (record_at t j) (r.goes j (omega arith))).0) (λ j g. h.owned j (omega arith))
-          ).owned (take 16 (record_at t k)) (h.owned k l)
+    -- each UUID has an entry, and keeps it
+    owned : (k : ℕ) → k < n → Owned (recorded_to (reserved_to s t n) t k) (take 16 (record_at t k))
+    owned k l =
+        let h = passed t b s v n r.goes in
+        (settled t b (reserved_to s t n) h.long k (λ j g. (goes_both (reserved_to s t j) (record_at t j) (r.goes j (omega arith))).0) (λ j g. h.owned j (omega arith))
+        ).owned (take 16 (record_at t k)) (h.owned k l)
 
-      pub all_owned : AllOwned y t
-      all_owned = record {
-        long = reserved_long;
-        whole = omega arith;
-        owned = λ k l. subst (λ (x : List ℕ). Owned (recorded_to x t k) (take 16 (record_at t k))) (sym r.is_state) (owned k (omega arith));
-      }
+    pub all_owned : AllOwned y t
+    all_owned = record {
+      whole = omega (arith, whole);
+      owned = λ k l. subst (λ (x : List ℕ). Owned (recorded_to x t k) (take 16 (record_at t k))) (sym r.is_state) (owned k (omega arith));
+    }
 
-      accepted : replay_of s t ≡ Accepted
-      accepted = answer_is ∙ ap (answered_to s t) count ∙ all_accepted n r.goes
+    accepted : replay_of s t ≡ Ok tt
+    accepted = answer_is ∙ all_accepted n r.goes
 
-      pub whole_accepted : (z : List ℕ) → z ≡ recorded_to y t (count_of t) → Replays s t Accepted z
-      whole_accepted z e = record {
-        bytes = b;
-        is_answer = sym accepted;
-        is_after = e ∙ ap (λ (x : List ℕ). recorded_to x t (count_of t)) r.is_state ∙ ap (λ (k : ℕ). recorded_to (reserved_to s t n) t k) count
-            ∙ (passed t b s v n r.goes).same ∙ sym (after_is accepted ∙ ap (recorded_to s t) count);
-      }
+    pub whole_accepted : (z : List ℕ) → z ≡ recorded_to y t n → Replays s t (Ok tt) z
+    whole_accepted z e = record {
+      bytes = b;
+      is_answer = sym accepted;
+      is_after = e ∙ ap (λ (x : List ℕ). recorded_to x t n) r.is_state ∙ (passed t b s v n r.goes).same ∙ sym (after_is accepted);
+    }
 
-    -- one is at fault, or cut
-    module _ (h : 32 * n ≡ length t → ⊥) where
-      low : n < count_of t
-      low = omega (arith, r.most)
+  -- record n has none
+  module _ (n : ℕ) (y : List ℕ) (r : FaultAt s t n y) where
+    refused : replay_of s t ≡ Err (Record n)
+    refused =
+        let q : (count_of t - suc n) + suc n ≡ count_of t = omega (arith, r.low) in
+        answer_is ∙ ap (answered_to s t) (sym q) ∙ stays s t (suc n) n (count_of t - suc n) (fault n r.so_far.goes r.stop)
 
-      stop : goes_in (reserved_to s t n) (record_at t n) ≡ false
-      stop = ⊎_elim r.stop cut (lt_or_ge n (length t / 32))
-        where
-          cut : length t / 32 ≤ n → goes_in (reserved_to s t n) (record_at t n) ≡ false
-          cut g =
-              let q : length (record_at t n) < 32 = simp (length-take, length-drop) (omega arith) in
-              ap (λ (x : Bool). cond x (ltb (place_of (reserved_to s t n) (take 16 (record_at t n))) 4096) false) (cut_not_fine (record_at t n) q)
-
-      refused : replay_of s t ≡ Refused n
-      refused =
-          let q : (count_of t - suc n) + suc n ≡ count_of t = omega (arith, low) in
-          answer_is ∙ ap (answered_to s t) (sym q) ∙ stays s t (suc n) n (count_of t - suc n) (fault n r.goes stop)
-
-      pub whole_refused : (z : List ℕ) → z ≡ swept_to y 4096 → Replays s t (Refused n) z
-      whole_refused z e = record {
-        bytes = b;
-        is_answer = sym refused;
-        is_after = e ∙ ap (λ (x : List ℕ). swept_to x 4096) r.is_state
-            ∙ swept_back s (reserved_to s t n) v (passed t b s v n r.goes).long.long (reserved_to_lem t b s v n r.goes)
-            ∙ sym (after_is refused);
-      }
+    pub whole_refused : (z : List ℕ) → z ≡ swept_to y 4096 → Replays s t (Err (Record n)) z
+    whole_refused z e = record {
+      bytes = b;
+      is_answer = sym refused;
+      is_after = e ∙ ap (λ (x : List ℕ). swept_to x 4096) r.so_far.is_state
+          ∙ swept_back s (reserved_to s t n) v (passed t b s v n r.so_far.goes).long.long (reserved_to_lem t b s v n r.so_far.goes)
+          ∙ sym (after_is refused);
+    }
 
 -- what an accepted trace leaves is a state
-then_both : (a : Replayed) (g : Bool) (n : ℕ) → then a g n ≡ Accepted → (a ≡ Accepted) × (g ≡ true)
-then_both Accepted true n e = (refl, refl)
-then_both Accepted false n e = never n e
-then_both (Refused m) g n e = never m e
-then_both NotAState g n e = never_state e
+then_both : (a : Replayed) (g : Bool) (n : ℕ) → then a g n ≡ Ok tt → (a ≡ Ok tt) × (g ≡ true)
+then_both (Ok x) true n e = (refl, refl)
+then_both (Ok x) false n e = never (Record n) e
+then_both (Err r) g n e = never r e
 
-recorded_tidy : (s t : List ℕ) → Tidy s → Bytes t → (n : ℕ) → answered_to s t n ≡ Accepted → Tidy (recorded_to s t n)
+recorded_tidy : (s t : List ℕ) → Tidy s → Bytes t → (n : ℕ) → answered_to s t n ≡ Ok tt → Tidy (recorded_to s t n)
 unfolding answered_to recorded_to
 recorded_tidy s t v b zero e = v
 recorded_tidy s t v b (suc n) e =
@@ -138,30 +130,28 @@ unfolding state_after
 left_tidy s t i b = by (replay_of s t) (answer_is s t i b)
   where
     by : (a : Replayed) → a ≡ answered_to s t (count_of t) → is_state (left_by a s t) ≡ true
-    by Accepted e = tidy_is (recorded_to s t (count_of t)) (recorded_tidy s t (is_tidy s i) b (count_of t) (sym e))
-    by (Refused n) e = i
-    by NotAState e = i
+    by (Ok x) e = tidy_is (recorded_to s t (count_of t)) (recorded_tidy s t (is_tidy s i) b (count_of t) (sym e))
+    by (Err r) e = i
 
 -- and no state is refused as one that is none
-answered_state : (s t : List ℕ) (n : ℕ) → answered_to s t n ≡ NotAState → ⊥
+answered_state : (s t : List ℕ) (n : ℕ) → answered_to s t n ≡ Err NotAState → ⊥
 unfolding answered_to
-answered_state s t zero e = never_state (sym e)
+answered_state s t zero e = never NotAState (sym e)
 answered_state s t (suc n) e = by (answered_to s t n) (goes_in (recorded_to s t n) (record_at t n)) (answered_state s t n) e
   where
-    by : (a : Replayed) (g : Bool) → (a ≡ NotAState → ⊥) → then a g n ≡ NotAState → ⊥
-    by Accepted true h e = never_state (sym e)
-    by Accepted false h e = never_refused n e
-    by (Refused m) g h e = never_refused m e
-    by NotAState g h e = h refl
+    by : (a : Replayed) (g : Bool) → (a ≡ Err NotAState → ⊥) → then a g n ≡ Err NotAState → ⊥
+    by (Ok x) true h e = never NotAState (sym e)
+    by (Ok x) false h e = never_state n e
+    by (Err r) g h e = h e
 
-pub no_state : (s t : List ℕ) → (replay_of s t ≡ NotAState) ↔ (is_state s ≡ false)
+pub no_state : (s t : List ℕ) → (replay_of s t ≡ Err NotAState) ↔ (is_state s ≡ false)
 unfolding replay_of
 no_state s t = by (is_state s)
   where
-    by : (b : Bool) → (cond b (answered_to s t (count_of t)) NotAState ≡ NotAState) ↔ (b ≡ false)
+    by : (b : Bool) → (cond b (answered_to s t (count_of t)) (Err NotAState) ≡ Err NotAState) ↔ (b ≡ false)
     by true = (λ e. absurd (answered_state s t (count_of t) e), λ e. no e)
     by false = (λ e. refl, λ e. refl)
 
-pub not_a_state : (s t : List ℕ) → Bytes t → is_state s ≡ false → Replays s t NotAState s
+pub not_a_state : (s t : List ℕ) → Bytes t → is_state s ≡ false → Replays s t (Err NotAState) s
 unfolding replay_of state_after
 not_a_state s t b h = record { bytes = b; is_answer = rw h; is_after = rw h }

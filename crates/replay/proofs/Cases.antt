@@ -11,8 +11,9 @@ use Rattle.words.specs.Slices.{same, zeros}
 use Rattle.replay.specs.Trace.{count_of, events_of, first_events, fine}
 use Rattle.replay.specs.Cancelled.{Cancelled, IsLatest}
 use Rattle.replay.specs.Acceptance.{admits, distinct, gathered, within}
-use Rattle.replay.specs.declared.Replayed.{Replayed}
-use Rattle.replay.specs.declared.Replayed.TheVariants.{Accepted, Refused}
+use Rattle.std.specs.Prelude.{Ok, Err}
+use Rattle.replay.specs.declared.ReplayRefusal.TheVariants.{Record}
+use Rattle.replay.specs.Replay.{Replayed}
 use Rattle.replay.proofs.Marks.{mark_in, mark_latest, marks_cancelled, cancelled_marks}
 use Rattle.replay.proofs.Verdicts.{verdict}
 
@@ -63,19 +64,19 @@ abbrev answer : List ℕ → Replayed
 answer t = verdict [] t (count_of t)
 
 -- the empty trace is accepted; a cut record is numbered by the whole ones before it; the first fault decides
-empty : answer [] ≡ Accepted
+empty : answer [] ≡ Ok tt
 unfolding verdict
 empty = refl
 
-both : answer (cancel 5 ++ reissue 5) ≡ Accepted
+both : answer (cancel 5 ++ reissue 5) ≡ Ok tt
 unfolding verdict first_events fine same admits gathered within number_low
 both = refl
 
-cut : answer (cancel 5 ++ take 1 (reissue 5)) ≡ Refused 1
+cut : answer (cancel 5 ++ take 1 (reissue 5)) ≡ Err (Record 1)
 unfolding verdict first_events fine same admits gathered within number_low
 cut = refl
 
-first : answer (cancel 5 ++ (a_record 7 5 9 0 ++ take 1 (reissue 5))) ≡ Refused 1
+first : answer (cancel 5 ++ (a_record 7 5 9 0 ++ take 1 (reissue 5))) ≡ Err (Record 1)
 unfolding verdict first_events fine same admits gathered within number_low
 first = refl
 

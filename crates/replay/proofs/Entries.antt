@@ -104,6 +104,9 @@ module _ (s : List ℕ) (h : length s ≡ 131072) (i : ℕ) (l : i < 4096) where
       state_same (put s i (entry_at s i)) s (put_long s i (entry_at s i) h l m) h
       (λ k g. ⊎_elim (λ e. ap (entry_at (put s i (entry_at s i))) e ∙ put_here s i (entry_at s i) h l m ∙ ap (entry_at s) (sym e)) (λ n. put_there s i (entry_at s i) h l m k n) (eq_or_ne k i))
 
+  pub put_as_is : (e : List ℕ) → entry_at s i ≡ e → s ≡ put s i e
+  put_as_is e q = sym put_self ∙ ap (put s i) q
+
   module _ (a b : List ℕ) (m : length a ≡ 32) (n : length b ≡ 32) where
     pub put_again : put (put s i a) i b ≡ put s i b
     put_again =

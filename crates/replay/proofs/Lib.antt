@@ -1,11 +1,11 @@
 pub mod Tests
 pub mod Parts
+pub mod Chunks
 pub mod Entries
 pub mod Places
 pub mod Visits
 pub mod Lookup
 pub mod Marks
-pub mod Blank
 pub mod Tidy
 pub mod Placed
 pub mod Count
@@ -22,9 +22,7 @@ pub mod Promises
 pub mod Order
 pub mod Cases
 pub mod Passes
-pub mod Checked
 pub mod Says
-pub mod Sweeping
 pub mod Swept
 pub mod AllOrNone
 pub mod Passing

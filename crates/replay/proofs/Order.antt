@@ -10,10 +10,9 @@ use Rattle.replay.specs.Trace.{Event, record_at, count_of, fine, events_of}
 use Rattle.replay.specs.Cancelled.{In}
 use Rattle.replay.specs.Acceptance.{distinct}
 use Rattle.replay.specs.State.{fresh}
+use Rattle.std.specs.Prelude.{Ok, Err}
+use Rattle.replay.specs.Replay.{Replayed, Stood}
 use Rattle.replay.specs.Calls.{Stands, Call, Calls, if_accepted, accepted, AllAccepted, TraceOf}
-use Rattle.replay.specs.declared.Replayed.{Replayed}
-use Rattle.replay.specs.declared.Replayed.TheVariants.{Accepted, Refused, NotAState}
-use Rattle.replay.specs.declared.Stood.{Stood}
 use Rattle.replay.proofs.Means.{Means, few}
 use Rattle.replay.proofs.Fresh.{fresh_means}
 use Rattle.replay.proofs.Pigeons.{fewer}
@@ -60,9 +59,8 @@ one_held (c ∷ cs) a t o e i =
 
 -- what is held is from the traces
 if_accepted_lem : (a : Replayed) (e : Event) (es : List Event) → In e (if_accepted a es) → In e es
-if_accepted_lem Accepted e es i = i
-if_accepted_lem (Refused n) e es i = absurd (none_in e i)
-if_accepted_lem NotAState e es i = absurd (none_in e i)
+if_accepted_lem (Ok x) e es i = i
+if_accepted_lem (Err r) e es i = absurd (none_in e i)
 
 held_from : (cs : List Call) (fs : List Event) → ((t : List ℕ) → TraceOf t cs → (e : Event) → In e (events_of t) → In e fs) → (e : Event) → In e (accepted cs) → In e fs
 unfolding accepted
@@ -96,7 +94,7 @@ all_fit fs l (x ∷ ds) s z es v c f g h =
     let t = x.trace in
     let w : (e : Event) → In e (es ++ events_of t) → In e fs = λ e i. ⊎_elim (λ j. f e j) (λ j. h t (head x ds) e j) (in_either e es (events_of t) i) in
     let k = fits_accepted es t (record { fines = g t (head x ds); few = omega (arith, l, fewer (es ++ events_of t) fs w) }) in
-    let a : x.answer ≡ Accepted = c.1.is_answer ∙ replay_judges s es t v c.1.bytes ∙ k in (
+    let a : x.answer ≡ Ok tt = c.1.is_answer ∙ replay_judges s es t v c.1.bytes ∙ k in (
       a,
       all_fit fs l ds c.0 z (es ++ if_accepted x.answer (events_of t)) (replay_after s es v c.1) c.2
           (λ e i. w e (subst (λ (y : Replayed). In e (es ++ if_accepted y (events_of t))) a i)) (λ y o. g y (tail y x ds o)) (λ y o. h y (tail y x ds o)),

@@ -1,7 +1,8 @@
 -- What the first pass reserved is swept away to the last byte: it went into free entries, which are zeros, and no entry of a state waits.
 use Prim.Native.Nat.{ℕ, zero, suc, ◌<◌, ◌≤◌}
 use mathlib.Core.Path.{◌≡◌, refl, sym, ap, ◌∙◌}
-use mathlib.Core.Bool.{Bool, cond}
+use mathlib.Core.Bool.{Bool, true, false, cond}
+use lib.Dec.{eqb}
 use mathlib.Core.Logic.{◌⊎◌, ⊎_elim, inl, inr}
 use mathlib.Core.List.{List}
 use native.Mathlib.Omega.{arith}
@@ -18,9 +19,16 @@ use Rattle.replay.proofs.Entries.{entry_cancel, entry_long, put_long, put_here, 
 use Rattle.replay.proofs.Fine.{id_long}
 use Rattle.replay.proofs.Placed as placed
 use Rattle.replay.proofs.Placed.{free}
-use Rattle.replay.proofs.Sweeping.{swept_long}
 use Rattle.replay.proofs.Passes as passes
 use Rattle.replay.proofs.Passes.{Long, AllGo, goes_both}
+
+-- an entry stays as long as it is
+swept_long : (e : List ℕ) → length e ≡ 32 → length (swept_at e) ≡ 32
+swept_long e h = by (eqb (cancel_of e) 1)
+  where
+    by : (t : Bool) → length (cond t (zeros 32) e) ≡ 32
+    by true = refl
+    by false = h
 
 -- an entry of s that was free and waits for a UUID
 pub record Waits (s : List ℕ) (k : ℕ) (e : List ℕ) : Type 0 where

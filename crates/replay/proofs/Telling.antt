@@ -9,11 +9,11 @@ use lib.Dec.{ltb, leb}
 use borrow.Author.Tests.{eq-eqb, lt-ltb, le-ltb, le-leb, leb-true, ltb-false}
 use lib.ListN.{length}
 use Rattle.replay.specs.Trace.{Event}
-use Rattle.replay.specs.State.{place_of}
-use Rattle.replay.specs.Replay.{latest_of, closed, login_of, told_at, standing_of}
+use Rattle.replay.specs.State.{place_of, found_in}
+use Rattle.std.specs.Prelude.{Ok}
+use Rattle.replay.specs.Replay.{Stood, latest_of, closed, login_of, told_at, standing_of}
 use Rattle.replay.specs.Calls.{LatestIs, StandsAs}
 use Rattle.replay.specs.declared.Login.{Login}
-use Rattle.replay.specs.declared.Stood.TheVariants.{Of}
 use Rattle.words.proofs.Either.{lt_or_ge}
 use Rattle.replay.proofs.Tests.{no}
 use Rattle.replay.proofs.Tidy.{Tidy}
@@ -22,21 +22,21 @@ use Rattle.replay.proofs.Marks.{mark_in, mark_latest, mark_none, marks_cancelled
 use Rattle.replay.proofs.Means.{Means}
 
 module _ (s u : List ℕ) (v : Tidy s) where
-  told_at_lem : told_at s (place_of s u) ≡ Of (login_of (cancel_for s u) (reissue_for s u))
+  told_at_lem : told_at s (found_in s u) ≡ Ok (login_of (cancel_for s u) (reissue_for s u))
   told_at_lem = ⊎_elim inside outside (lt_or_ge (place_of s u) 4096)
     where
-      inside : place_of s u < 4096 → told_at s (place_of s u) ≡ Of (login_of (cancel_for s u) (reissue_for s u))
+      inside : place_of s u < 4096 → told_at s (found_in s u) ≡ Ok (login_of (cancel_for s u) (reissue_for s u))
       inside p = rw (lt-ltb (place_of s u) 4096 p, v.each (place_of s u) p)
 
-      outside : 4096 ≤ place_of s u → told_at s (place_of s u) ≡ Of (login_of (cancel_for s u) (reissue_for s u))
+      outside : 4096 ≤ place_of s u → told_at s (found_in s u) ≡ Ok (login_of (cancel_for s u) (reissue_for s u))
       outside p = rw (le-ltb (place_of s u) 4096 p)
 
-  pub told_marks : standing_of s u ≡ Of (login_of (cancel_for s u) (reissue_for s u))
+  pub told_marks : standing_of s u ≡ Ok (login_of (cancel_for s u) (reissue_for s u))
   unfolding standing_of
   told_marks = rw (eq-eqb (length s) 131072 v.long) told_at_lem
 
-pub told : (s : List ℕ) (es : List Event) (u : List ℕ) → Means s es → standing_of s u ≡ Of (login_of (mark_in 2 u es) (mark_in 3 u es))
-told s es u v = told_marks s u v.sound.state ∙ ap₂ (λ (c d : ℕ). Of (login_of c d)) (v.cancels u) (v.reissues u)
+pub told : (s : List ℕ) (es : List Event) (u : List ℕ) → Means s es → standing_of s u ≡ Ok (login_of (mark_in 2 u es) (mark_in 3 u es))
+told s es u v = told_marks s u v.sound.state ∙ ap₂ (λ (c d : ℕ). Ok (login_of c d)) (v.cancels u) (v.reissues u)
 
 closed_true : (c d : ℕ) → closed c d ≡ true → (8589934592 ≤ c) × (d ≤ c)
 closed_true c d h = by (ltb c 8589934592) refl h
@@ -66,5 +66,5 @@ module _ (u : List ℕ) (es : List Event) where
     reissue = latest 3;
   }
 
-pub of_inj : {l m : Login} → Of l ≡ Of m → l ≡ m
-of_inj e = cc
+pub ok_inj : {l m : Login} → ◌≡◌ {A = Stood} (Ok l) (Ok m) → l ≡ m
+ok_inj e = cc

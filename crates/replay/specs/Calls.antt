@@ -1,15 +1,10 @@
 -- What a call of `replay` and one of `standing` ensure, and calls one after the other.
-use Rattle.std.specs.Prelude.{ℕ, ◌≡◌, true, ◌↔◌, ◌⊎◌, List, [], ◌∷◌, ◌++◌, length}
+use Rattle.std.specs.Prelude.{ℕ, ◌≡◌, true, ◌↔◌, ◌⊎◌, List, [], ◌∷◌, ◌++◌, length, Option, None, Some, Ok, Err}
 use Rattle.words.specs.Numbers.{Bytes}
 use Rattle.replay.specs.Trace.{Event, events_of}
 use Rattle.replay.specs.Cancelled.{Held, IsLatest, Cancelled}
-use Rattle.replay.specs.Replay.{replay_of, state_after, standing_of}
-use Rattle.replay.specs.declared.Replayed.{Replayed}
-use Rattle.replay.specs.declared.Replayed.TheVariants.{Accepted, Refused, NotAState}
-use Rattle.replay.specs.declared.Latest.{Latest}
-use Rattle.replay.specs.declared.Latest.TheVariants.{Never, At}
+use Rattle.replay.specs.Replay.{Replayed, Stood, replay_of, state_after, standing_of}
 use Rattle.replay.specs.declared.Login.{Login}
-use Rattle.replay.specs.declared.Stood.{Stood}
 
 -- the state holds `before` at first, and `after` when the call is over
 pub record Replays (before trace : List ℕ) (answer : Replayed) (after : List ℕ) : Type 0 where
@@ -33,9 +28,8 @@ Calls before (c ∷ cs) after = (between : List ℕ) × Replays before c.trace c
 
 -- the events of a trace, if it was accepted
 abbrev pub if_accepted : Replayed → List Event → List Event
-if_accepted Accepted es = es
-if_accepted (Refused n) es = []
-if_accepted NotAState es = []
+if_accepted (Ok x) es = es
+if_accepted (Err e) es = []
 
 -- "the traces accepted so far, taken together"
 unfoldable pub accepted : List Call → List Event
@@ -45,7 +39,7 @@ accepted (c ∷ cs) = if_accepted c.answer (events_of c.trace) ++ accepted cs
 -- every call was accepted
 unfoldable pub AllAccepted : List Call → Type 0
 AllAccepted [] = Unit {0}
-AllAccepted (c ∷ cs) = (c.answer ≡ Accepted) × AllAccepted cs
+AllAccepted (c ∷ cs) = (c.answer ≡ Ok tt) × AllAccepted cs
 
 -- the trace t is that of one of the calls
 unfoldable pub TraceOf : List ℕ → List Call → Type 0
@@ -53,9 +47,9 @@ TraceOf t [] = ⊥
 TraceOf t (c ∷ cs) = (t ≡ c.trace) ⊎ TraceOf t cs
 
 -- the latest event of kind k of the login u, if there is one
-abbrev pub LatestIs : ℕ → List ℕ → List Event → Latest → Type 0
-LatestIs k u es Never = (e : Event) → Held k u es e → ⊥
-LatestIs k u es (At x) = IsLatest k u es x
+abbrev pub LatestIs : ℕ → List ℕ → List Event → Option ℕ → Type 0
+LatestIs k u es None = (e : Event) → Held k u es e → ⊥
+LatestIs k u es (Some x) = IsLatest k u es x
 
 -- how the login u stands after the events es
 pub record StandsAs (u : List ℕ) (es : List Event) (l : Login) : Type 0 where

@@ -1,14 +1,22 @@
 -- What replaying a trace into a state gives, record by record, and what a state says of a login: of any bytes.
-use Rattle.std.specs.Prelude.{ℕ, zero, suc, ◌-◌, Bool, false, cond, List, eqb, ltb, leb, length, take}
+use Rattle.std.specs.Prelude.{ℕ, zero, suc, ◌-◌, Bool, false, cond, List, eqb, ltb, leb, length, take, Option, None, Some, Result, Ok, Err}
 use Rattle.replay.specs.Trace.{record_at, count_of, fine}
-use Rattle.replay.specs.State.{entry_at, cancel_of, reissue_of, tidy, is_state, put, place_of, noted}
-use Rattle.replay.specs.declared.Replayed.{Replayed}
-use Rattle.replay.specs.declared.Replayed.TheVariants as replayed
-use Rattle.replay.specs.declared.Latest.{Latest}
-use Rattle.replay.specs.declared.Latest.TheVariants.{Never, At}
+use Rattle.replay.specs.State.{entry_at, cancel_of, reissue_of, tidy, is_state, put, place_of, found_in, noted}
+use Rattle.replay.specs.declared.ReplayRefusal.{ReplayRefusal}
+use Rattle.replay.specs.declared.ReplayRefusal.TheVariants as refusal
 use Rattle.replay.specs.declared.Login.{Login}
-use Rattle.replay.specs.declared.Stood.{Stood}
-use Rattle.replay.specs.declared.Stood.TheVariants as stood
+use Rattle.replay.specs.declared.NotAState.{NotAState}
+
+-- the answer to a trace: accepted, or why not
+abbrev pub Replayed : Type 0
+Replayed = Result (Unit {0}) ReplayRefusal
+
+-- the answer for a login: how it stands, or that the bytes are no state
+abbrev pub Stood : Type 0
+Stood = Result Login NotAState
+
+abbrev pub no_state : Stood
+no_state = Err (record {})
 
 -- the record r goes into the state s: it is fine, and its UUID has an entry or finds a free one
 abbrev pub goes_in : List ℕ → List ℕ → Bool
@@ -24,29 +32,27 @@ recorded_to s t (suc n) = with_record (recorded_to s t n) (record_at t n)
 
 -- of the first n records: accepted, or the first at fault
 abbrev pub then : Replayed → Bool → ℕ → Replayed
-then replayed.Accepted g n = cond g replayed.Accepted (replayed.Refused n)
-then (replayed.Refused m) g n = replayed.Refused m
-then replayed.NotAState g n = replayed.NotAState
+then (Ok x) g n = cond g (Ok x) (Err (refusal.Record n))
+then (Err e) g n = Err e
 
 unfoldable pub answered_to : List ℕ → List ℕ → ℕ → Replayed
-answered_to s t zero = replayed.Accepted
+answered_to s t zero = Ok tt
 answered_to s t (suc n) = then (answered_to s t n) (goes_in (recorded_to s t n) (record_at t n)) n
 
 unfoldable pub replay_of : List ℕ → List ℕ → Replayed
-replay_of s t = cond (is_state s) (answered_to s t (count_of t)) replayed.NotAState
+replay_of s t = cond (is_state s) (answered_to s t (count_of t)) (Err refusal.NotAState)
 
 -- all records, or none
 abbrev pub left_by : Replayed → List ℕ → List ℕ → List ℕ
-left_by replayed.Accepted s t = recorded_to s t (count_of t)
-left_by (replayed.Refused n) s t = s
-left_by replayed.NotAState s t = s
+left_by (Ok x) s t = recorded_to s t (count_of t)
+left_by (Err e) s t = s
 
 unfoldable pub state_after : List ℕ → List ℕ → List ℕ
 state_after s t = left_by (replay_of s t) s t
 
 -- what a mark says, and two
-abbrev pub latest_of : ℕ → Latest
-latest_of m = cond (ltb m 8589934592) Never (At (m - 8589934592))
+abbrev pub latest_of : ℕ → Option ℕ
+latest_of m = cond (ltb m 8589934592) None (Some (m - 8589934592))
 
 abbrev pub closed : ℕ → ℕ → Bool
 closed c d = cond (ltb c 8589934592) false (leb d c)
@@ -55,11 +61,12 @@ abbrev pub login_of : ℕ → ℕ → Login
 login_of c d = record { cancelled = closed c d; cancel = latest_of c; reissue = latest_of d }
 
 abbrev pub told_of : List ℕ → Stood
-told_of e = cond (tidy e) (stood.Of (login_of (cancel_of e) (reissue_of e))) stood.NotAState
+told_of e = cond (tidy e) (Ok (login_of (cancel_of e) (reissue_of e))) no_state
 
--- the login whose look-up ends at entry k: 4,096 is that of a UUID that never came
-abbrev pub told_at : List ℕ → ℕ → Stood
-told_at s k = cond (ltb k 4096) (told_of (entry_at s k)) (stood.Of (record { cancelled = false; cancel = Never; reissue = Never }))
+-- the login whose look-up ends at an entry, and one that never came
+abbrev pub told_at : List ℕ → Option ℕ → Stood
+told_at s None = Ok (record { cancelled = false; cancel = None; reissue = None })
+told_at s (Some k) = told_of (entry_at s k)
 
 unfoldable pub standing_of : List ℕ → List ℕ → Stood
-standing_of s u = cond (eqb (length s) 131072) (told_at s (place_of s u)) stood.NotAState
+standing_of s u = cond (eqb (length s) 131072) (told_at s (found_in s u)) no_state

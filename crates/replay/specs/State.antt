@@ -1,8 +1,10 @@
 -- A state of 131,072 bytes, as the code lays it out: 4,096 entries of 32 bytes. A free entry is zeros. A taken one is a UUID and two marks of 8 bytes, the lowest byte first: 2^32, or, once a cancel has come, 2^33 and the time of the latest; the second is the same of reissues. A UUID's entry is the first that is free or its own, in an order that its bytes give.
-use Rattle.std.specs.Prelude.{ℕ, zero, suc, ◌+◌, ◌*◌, ◌/◌, ◌%◌, max, Bool, true, false, cond, List, [], ◌∷◌, ◌++◌, eqb, ltb, length, get_or, take, drop}
+use Rattle.std.specs.Prelude.{ℕ, zero, suc, ◌+◌, ◌*◌, ◌/◌, ◌%◌, max, Bool, true, false, cond, List, ◌++◌, eqb, ltb, length, take, drop, Option, None, Some}
 use Rattle.words.specs.Numbers.{number_low, bytes_low}
 use Rattle.words.specs.Slices.{zeros, same}
 use Rattle.replay.specs.Trace.{Event, event_of}
+use Rattle.replay.specs.declared.entry.Kind.{Kind}
+use Rattle.replay.specs.declared.entry.Kind.TheVariants.{Edit, Cancel, Reissue}
 
 abbrev pub entry_at : List ℕ → ℕ → List ℕ
 entry_at s k = take 32 (drop (32 * k) s)
@@ -43,7 +45,7 @@ put s k e = take (32 * k) s ++ (e ++ drop (32 * k + 32) s)
 
 -- the four bytes of s at place p
 abbrev pub four : List ℕ → ℕ → List ℕ
-four s p = get_or s p 0 ∷ get_or s (p + 1) 0 ∷ get_or s (p + 2) 0 ∷ get_or s (p + 3) 0 ∷ []
+four s p = take 4 (drop p s)
 
 -- a number of 32 bits of u's bytes: any would do, and this one spreads
 unfoldable pub spread_of : List ℕ → ℕ
@@ -73,9 +75,21 @@ seek s u (suc n) d = cond (stops s u (slot u d)) (slot u d) (seek s u n (d + 1))
 abbrev pub place_of : List ℕ → List ℕ → ℕ
 place_of s u = seek s u 4096 0
 
+-- the same as an entry, or none
+abbrev pub found_in : List ℕ → List ℕ → Option ℕ
+found_in s u = cond (ltb (place_of s u) 4096) (Some (place_of s u)) None
+
 -- what an event brings to the mark of kind k
 abbrev pub mark_of : ℕ → Event → ℕ
 mark_of k e = cond (eqb e.kind k) (8589934592 + e.time) 4294967296
+
+-- the kind of an event, as the code has it
+abbrev pub kind_of : ℕ → Option Kind
+kind_of k = cond (eqb k 1) (Some Edit) (cond (eqb k 2) (Some Cancel) (cond (eqb k 3) (Some Reissue) None))
+
+-- what an event brings to the marks of cancels and of reissues
+abbrev pub brought_of : Event → ℕ × ℕ
+brought_of e = (mark_of 2 e, mark_of 3 e)
 
 -- the entry e, with what the record r brings
 abbrev pub noted : List ℕ → List ℕ → List ℕ

@@ -1,7 +1,7 @@
 -- How the code takes a trace in, in two passes: an entry that is kept for a new UUID waits, with 1 for its cancel mark, which no replay leaves; the second pass fills it, or it is swept away.
-use Rattle.std.specs.Prelude.{ℕ, zero, suc, ◌*◌, ◌/◌, ◌<◌, ◌≡◌, Bool, true, false, cond, List, eqb, length, take}
+use Rattle.std.specs.Prelude.{ℕ, zero, suc, ◌*◌, ◌/◌, ◌<◌, ◌≡◌, Bool, true, false, cond, List, eqb, length, take, Result, Ok, Err}
 use Rattle.words.specs.Slices.{zeros}
-use Rattle.replay.specs.Trace.{record_at}
+use Rattle.replay.specs.Trace.{record_at, count_of}
 use Rattle.replay.specs.State.{entry_at, cancel_of, entry_of, put, place_of}
 use Rattle.replay.specs.Replay.{goes_in, recorded_to}
 
@@ -23,12 +23,21 @@ unfoldable pub reserved_to : List ℕ → List ℕ → ℕ → List ℕ
 reserved_to s t zero = s
 reserved_to s t (suc n) = with_place (reserved_to s t n) (take 16 (record_at t n))
 
--- the first n records have places, and n is the number of whole records or that of the first one at fault
-pub record Reserves (s t : List ℕ) (n : ℕ) (state : List ℕ) : Type 0 where
+-- the first n records have places
+pub record ReservesTo (s t : List ℕ) (n : ℕ) (state : List ℕ) : Type 0 where
   pub is_state : state ≡ reserved_to s t n
   pub goes : (k : ℕ) → k < n → goes_in (reserved_to s t k) (record_at t k) ≡ true
-  pub stop : (n < length t / 32 → goes_in (reserved_to s t n) (record_at t n) ≡ false)
-  pub most : n < suc (length t / 32)
+
+-- record n has none, and those before it do
+pub record FaultAt (s t : List ℕ) (n : ℕ) (state : List ℕ) : Type 0 where
+  pub so_far : ReservesTo s t n state
+  pub low : n < count_of t
+  pub stop : goes_in (reserved_to s t n) (record_at t n) ≡ false
+
+-- every record has a place, or the first that has none is named
+abbrev pub Reserves : List ℕ → List ℕ → Result (Unit {0}) ℕ → List ℕ → Type 0
+Reserves s t (Ok x) state = ReservesTo s t (count_of t) state
+Reserves s t (Err n) state = FaultAt s t n state
 
 -- the entry e, free again where it waits
 abbrev pub swept_at : List ℕ → List ℕ
@@ -45,6 +54,5 @@ pub record Owned (s u : List ℕ) : Type 0 where
 
 -- every record of t is whole, and as they go in one after the other each UUID has an entry
 pub record AllOwned (s t : List ℕ) : Type 0 where
-  pub long : length s ≡ 131072
   pub whole : length t ≡ 32 * (length t / 32)
   pub owned : (k : ℕ) → k < length t / 32 → Owned (recorded_to s t k) (take 16 (record_at t k))

@@ -10,61 +10,65 @@ ghost use Rattle.std.specs.Prelude.{◌≡◌, true};
 ghost use Rattle.replay.specs.State.{is_state};
 ghost use Rattle.replay.specs.Calls.{Replays, Stands};
 
-#[derive(Clone, Copy)]
-pub enum Replayed {
-    Accepted,
+#[derive(Clone, Copy, Debug, PartialEq, Eq)]
+pub enum ReplayRefusal {
     // The number of the first record at fault.
-    Refused(usize),
+    Record(usize),
     NotAState,
 }
 
-// The latest time of a kind of record.
-#[derive(Clone, Copy)]
-pub enum Latest {
-    Never,
-    At(u32),
-}
+#[derive(Clone, Copy, Debug, PartialEq, Eq)]
+pub struct NotAState;
 
-#[derive(Clone, Copy)]
+// With the latest time of a cancel and of a reissue, where one has come.
+#[derive(Clone, Copy, Debug, PartialEq, Eq)]
 pub struct Login {
     pub cancelled: bool,
-    pub cancel: Latest,
-    pub reissue: Latest,
-}
-
-#[derive(Clone, Copy)]
-pub enum Stood {
-    Of(Login),
-    NotAState,
+    pub cancel: Option<u32>,
+    pub reissue: Option<u32>,
 }
 
 // All records go in, or none does.
-fn whole(state: &mut [u8], trace: &[u8]) -> Replayed
+fn whole(state: &mut table::State, trace: &[u8]) -> Result<(), ReplayRefusal>
     requires { is_state state.old ≡ true }
     ensures { Replays state.old trace.now result state.new }
 {
-    let n = pass::reserve(state, trace);
-    if 32 * n == trace.len() {
-        pass::enter(state, trace);
-        return Replayed::Accepted;
+    match pass::reserve(state, trace) {
+        Ok(()) => {
+            pass::enter(state, trace);
+            Ok(())
+        }
+        Err(n) => {
+            pass::sweep(state);
+            Err(ReplayRefusal::Record(n))
+        }
     }
-    pass::sweep(state);
-    Replayed::Refused(n)
 }
 
 // The records of a trace into a state. Refused, no byte of it changes.
-pub fn replay(state: &mut [u8], trace: &[u8]) -> Replayed
+pub fn replay(state: &mut [u8], trace: &[u8]) -> Result<(), ReplayRefusal>
     ensures { Replays state.old trace.now result state.new }
 {
-    if table::is_state(state) {
-        return whole(state, trace);
+    if !table::is_state(state) {
+        return Err(ReplayRefusal::NotAState);
     }
-    Replayed::NotAState
+    whole(state.as_mut_array().unwrap(), trace)
 }
 
 // How the login stands, as the state has it.
-pub fn standing(state: &[u8], uuid: &[u8; 16]) -> Stood
+#[tactic(auto, using(crate::proofs::Says::stands_not, crate::proofs::Says::stands_at, crate::proofs::Places::found_place))]
+pub fn standing(state: &[u8], uuid: &[u8; 16]) -> Result<Login, NotAState>
     ensures { Stands state.now uuid.now result }
 {
-    table::told(state, uuid)
+    let Some(state) = state.as_array() else {
+        return Err(NotAState);
+    };
+    match table::place(state, uuid) {
+        Some(i) => entry::told(table::entry(state, i)),
+        None => Ok(Login {
+            cancelled: false,
+            cancel: None,
+            reissue: None,
+        }),
+    }
 }

@@ -1,103 +1,100 @@
 // The two passes over a trace. The first reserves an entry for each UUID that is new, and finds the first record at fault;
 // the second can't fail. Where the first finds one, what it reserved is swept away: it went into free entries, so that every
 // byte is then as before.
-ghost use Rattle.std.specs.Prelude.{◌≡◌, ◌*◌, length, take};
+ghost use Rattle.std.specs.Prelude.{◌≡◌, ◌<◌, take};
+ghost use Rattle.replay.specs.State.{entry_at, put};
 ghost use Rattle.replay.specs.Trace.{count_of};
 ghost use Rattle.replay.specs.Replay.{goes_in, with_record, recorded_to};
 ghost use Rattle.replay.specs.Waiting.{kept_for, reserved_with, Reserves, swept_at, swept_to, Owned, AllOwned};
 
+use crate::table::State;
 use crate::{entry, table};
 
+// The cancel mark of an entry that waits: no replay leaves it.
+const WAITING: u64 = 1;
+
 // A free entry is kept for the UUID; a taken one stays as it is.
-fn keep(e: &mut [u8], u: &[u8])
-    requires { (length e.old ≡ 32) × (length u.now ≡ 16) }
-    ensures { e.new ≡ kept_for u.now e.old }
+#[tactic(auto, using(crate::proofs::Entries::put_as_is))]
+fn keep(state: &mut State, i: usize, u: &[u8; 16])
+    requires { i < 4096 }
+    ensures { state.new ≡ put state.old i (kept_for u.now (entry_at state.old i)) }
 {
-    if entry::mark(e, 16) == 0 {
-        entry::lay(e, u, 1, 0);
+    if entry::cancel(table::entry(state, i)) == 0 {
+        table::put(state, i, &entry::laid(u, WAITING, 0));
     }
 }
 
 // Whether the record goes in; its UUID then has an entry.
-fn reserve_one(state: &mut [u8], r: &[u8]) -> bool
-    requires { length state.old ≡ 131072 }
+#[tactic(auto, using(crate::proofs::Places::found_place), unfolding(crate::specs::Waiting::with_place))]
+fn reserve_one(state: &mut State, r: &[u8; 32]) -> bool
     ensures answer { result ≡ goes_in state.old r.now }
     ensures memory { state.new ≡ reserved_with result state.old r.now }
 {
-    if entry::fine(r) {
-        let i = table::place(state, &r[0..16]);
-        if i < 4096 {
-            let p = 32 * i;
-            let q = p + 32;
-            keep(&mut state[p..q], &r[0..16]);
-            return true;
-        }
+    if !entry::fine(r) {
         return false;
     }
-    false
+    let uuid = entry::uuid(r);
+    match table::place(state, uuid) {
+        Some(i) => {
+            keep(state, i, uuid);
+            true
+        }
+        None => false,
+    }
 }
 
-// How many records go in before the first at fault.
-pub fn reserve(state: &mut [u8], trace: &[u8]) -> usize
-    requires { length state.old ≡ 131072 }
+// The error is the number of the first record at fault; those before it go in.
+pub fn reserve(state: &mut State, trace: &[u8]) -> Result<(), usize>
     ensures { Reserves state.old trace.now result state.new }
 {
-    let mut n: usize = 0;
-    while n < trace.len() / 32 {
-        let p = 32 * n;
-        let q = p + 32;
-        if reserve_one(state, &trace[p..q]) {
-            n += 1;
-        } else {
-            return n;
+    let (records, cut) = trace.as_chunks();
+    for (n, r) in records.iter().enumerate() {
+        if !reserve_one(state, r) {
+            return Err(n);
         }
     }
-    n
+    if cut.is_empty() {
+        Ok(())
+    } else {
+        Err(records.len())
+    }
 }
 
-fn sweep_one(e: &mut [u8])
-    requires { length e.old ≡ 32 }
-    ensures { e.new ≡ swept_at e.old }
+#[tactic(auto, using(crate::proofs::Entries::put_as_is))]
+fn sweep_one(state: &mut State, i: usize)
+    requires { i < 4096 }
+    ensures { state.new ≡ put state.old i (swept_at (entry_at state.old i)) }
 {
-    if entry::mark(e, 16) == 1 {
-        words::slices::zero(e);
+    if entry::cancel(table::entry(state, i)) == WAITING {
+        table::put(state, i, &[0; 32]);
     }
 }
 
 // What waits is free again.
-pub fn sweep(state: &mut [u8])
-    requires { length state.old ≡ 131072 }
+pub fn sweep(state: &mut State)
     ensures { state.new ≡ swept_to state.old 4096 }
 {
-    let mut i: usize = 0;
-    while i < 4096 {
-        let p = 32 * i;
-        let q = p + 32;
-        sweep_one(&mut state[p..q]);
-        i += 1;
+    for i in 0..4096 {
+        sweep_one(state, i);
     }
 }
 
-fn enter_one(state: &mut [u8], r: &[u8])
-    requires { (length state.old ≡ 131072) × (length r.now ≡ 32) × Owned state.old (take 16 r.now) }
+#[tactic(auto, using(crate::proofs::Places::found_place), unfolding(crate::specs::Replay::with_record))]
+fn enter_one(state: &mut State, r: &[u8; 32])
+    requires { Owned state.old (take 16 r.now) }
     ensures { state.new ≡ with_record state.old r.now }
 {
-    let i = table::place(state, &r[0..16]);
-    let p = 32 * i;
-    let q = p + 32;
-    entry::note(&mut state[p..q], r);
+    let i = table::place(state, entry::uuid(r)).unwrap();
+    let e = entry::noted(table::entry(state, i), r);
+    table::put(state, i, &e);
 }
 
 // Each record into the entry of its UUID.
-pub fn enter(state: &mut [u8], trace: &[u8])
+pub fn enter(state: &mut State, trace: &[u8])
     requires { AllOwned state.old trace.now }
     ensures { state.new ≡ recorded_to state.old trace.now (count_of trace.now) }
 {
-    let mut k: usize = 0;
-    while k < trace.len() / 32 {
-        let p = 32 * k;
-        let q = p + 32;
-        enter_one(state, &trace[p..q]);
-        k += 1;
+    for r in trace.as_chunks().0 {
+        enter_one(state, r);
     }
 }

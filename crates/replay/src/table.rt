@@ -1,86 +1,60 @@
 // The entries of a state: whether it is one, and finding a UUID's.
-ghost use Rattle.std.specs.Prelude.{◌≡◌, ◌<◌, length};
-ghost use Rattle.replay.specs.State.{is_state, stops as stops_of, place_of};
-ghost use Rattle.replay.specs.Replay.{told_at};
-ghost use Rattle.replay.specs.Calls.{Stands};
+ghost use Rattle.std.specs.Prelude.{◌≡◌, ◌<◌};
+ghost use Rattle.replay.specs.State.{is_state, entry_at, put, stops as stops_of, found_in};
 
-use crate::{Latest, Login, Stood, entry};
+use crate::entry;
+
+// Bytes, and not 4,096 entries: C lends them so, and files hold them (clause TalcReplay).
+pub type State = [u8; 131072];
 
 pub fn is_state(state: &[u8]) -> bool
     ensures { result ≡ is_state state.now }
 {
-    if state.len() != 131072 {
-        return false;
-    }
-    let mut i: usize = 0;
-    while i < 4096 {
-        let p = 32 * i;
-        let q = p + 32;
-        if entry::tidy(&state[p..q]) {
-            i += 1;
-        } else {
-            return false;
-        }
-    }
-    true
+    state.len() == 131072 && state.as_chunks().0.iter().all(entry::tidy)
+}
+
+// Entry i. A plain number: callers have it from a loop below 4,096 or from `place`, and a type of its own would be made and
+// taken apart at every call.
+#[tactic(auto, using(crate::proofs::Chunks::part_in))]
+pub fn entry(state: &State, i: usize) -> &[u8; 32]
+    requires { i < 4096 }
+    ensures { result.now ≡ entry_at state.now i }
+{
+    &state.as_chunks().0[i]
+}
+
+// The entry e in place of entry i. By its range: of a memory that std lends in chunks nothing is known afterwards.
+#[tactic(auto, using(crate::proofs::Places::put_is))]
+pub fn put(state: &mut State, i: usize, e: &[u8; 32])
+    requires { i < 4096 }
+    ensures { state.new ≡ put state.old i e.now }
+{
+    state[32 * i..32 * i + 32].copy_from_slice(e);
 }
 
 // The look-up of a UUID ends at entry i.
-fn stops(state: &[u8], uuid: &[u8], i: usize) -> bool
-    requires { (length state.now ≡ 131072) × (i < 4096) }
+#[tactic(auto, using(words::proofs::SliceLaws::same_pointwise), unfolding(crate::specs::State::stops))]
+fn stops(state: &State, uuid: &[u8; 16], i: usize) -> bool
+    requires { i < 4096 }
     ensures { result ≡ stops_of state.now uuid.now i }
 {
-    let p = 32 * i;
-    let q = p + 32;
-    let e = &state[p..q];
-    if entry::mark(e, 16) == 0 {
-        return true;
-    }
-    words::slices::same(&e[0..16], uuid)
+    let e = entry(state, i);
+    entry::cancel(e) == 0 || entry::uuid(e) == uuid
 }
 
-// The entry of a UUID, or the free one that it would take; 4,096 for neither.
-pub fn place(state: &[u8], uuid: &[u8]) -> usize
-    requires { (length state.now ≡ 131072) × (length uuid.now ≡ 16) }
-    ensures { result ≡ place_of state.now uuid.now }
+// The entry of a UUID, or the free one that it would take.
+#[tactic(auto, using(crate::proofs::Places::looks))]
+pub fn place(state: &State, uuid: &[u8; 16]) -> Option<usize>
+    ensures { result ≡ found_in state.now uuid.now }
 {
-    let h = entry::spread(uuid);
+    let h = entry::spread(uuid) as usize;
     let first = h / 1048576;
     let step = 2 * (h / 16384 % 64) + 1;
-    let mut d: usize = 0;
-    while d < 4096 {
+    for d in 0..4096 {
         let i = (first + d * step) % 4096;
         if stops(state, uuid, i) {
-            return i;
+            return Some(i);
         }
-        d += 1;
     }
-    4096
-}
-
-fn told_at(state: &[u8], i: usize) -> Stood
-    requires { length state.now ≡ 131072 }
-    ensures { result ≡ told_at state.now i }
-{
-    if i < 4096 {
-        let p = 32 * i;
-        let q = p + 32;
-        return entry::told(&state[p..q]);
-    }
-    Stood::Of(Login {
-        cancelled: false,
-        cancel: Latest::Never,
-        reissue: Latest::Never,
-    })
-}
-
-pub fn told(state: &[u8], uuid: &[u8]) -> Stood
-    requires { length uuid.now ≡ 16 }
-    ensures { Stands state.now uuid.now result }
-{
-    if state.len() != 131072 {
-        return Stood::NotAState;
-    }
-    let i = place(state, uuid);
-    told_at(state, i)
+    None
 }

@@ -4,6 +4,7 @@ use mathlib.Core.Path.{◌≡◌, refl}
 use mathlib.Core.Bool.{true, false}
 use mathlib.Core.List.{List, [], ◌∷◌, ◌++◌, map}
 use lib.ListN.{take, set, replicate}
+use Rattle.std.specs.Prelude.{Some, None, Ok, Err}
 use Rattle.words.specs.Members.{to}
 use Rattle.words.specs.Numbers.{number_low, bytes_low}
 use Rattle.words.specs.Slices.{zeros, same}
@@ -14,8 +15,7 @@ use Rattle.rows.specs.Days.{days_between, days_of}
 use Rattle.rows.specs.Fit.{unfit}
 use Rattle.rows.specs.Answers.{signed}
 use Rattle.rows.specs.Import.{before_zero, fine_column, fine_row, login_in, import_from, import_of, values_of, show_of}
-use Rattle.rows.specs.declared.Imported.TheVariants as imported
-use Rattle.rows.specs.declared.Shown.TheVariants as shown
+use Rattle.rows.specs.declared.RowRefusal.{RowRefusal}
 
 -- the same second, the last second of the day, a day, and as far as it goes
 days_to_come : days_between 5 5 ∷ days_between 86404 5 ∷ days_between 86405 5 ∷ days_between 4294967295 0 ∷ [] ≡ 0 ∷ 0 ∷ 1 ∷ 49710 ∷ []
@@ -112,15 +112,18 @@ full_back : login_in (row_of full) ≡ full
 unfolding row_of padded bytes_low login_in before_zero number_low
 full_back = refl
 
+abbrev refused : ℕ → RowRefusal
+refused n = record { number = n }
+
 -- ==== Tables of no row, of two, and with a fault at the second: a damaged row, one byte too much
 tables : map import_of ([] ∷ (row ++ row) ∷ (row ++ set row 255 1) ∷ (row ++ (0 ∷ [])) ∷ [])
-    ≡ imported.Rows 0 ∷ imported.Rows 2 ∷ imported.Refused 1 ∷ imported.Refused 1 ∷ []
+    ≡ Ok 0 ∷ Ok 2 ∷ Err (refused 1) ∷ Err (refused 1) ∷ []
 unfolding import_of import_from fine_row fine_column unfit before_zero value_of record_shape ends_whole greatest goes_wrong_of same
 tables = refl
 
 -- a row is shown whatever the others are
 shows : map (show_of (set row 255 1 ++ (row ++ (0 ∷ [])))) (0 ∷ 1 ∷ 2 ∷ 3 ∷ [])
-    ≡ shown.Refused ∷ shown.Of (values_of login) ∷ shown.Refused ∷ shown.Nowhere ∷ []
+    ≡ Err (refused 0) ∷ Ok (Some (values_of login)) ∷ Err (refused 2) ∷ Ok None ∷ []
 unfolding show_of login_in number_low fine_row fine_column unfit before_zero value_of record_shape ends_whole greatest goes_wrong_of same
 shows = refl
 

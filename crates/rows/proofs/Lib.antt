@@ -1,12 +1,11 @@
-mod Tags
 mod Zero
-mod Sevenbit
+pub mod Sevenbit
 pub mod Rounding
 mod Padding
 mod Assembly
 mod Columns
 mod Taking
-mod Texts
+pub mod Texts
 pub mod Back
 pub mod Tables
 pub mod Promises

@@ -1,18 +1,19 @@
--- Bytes 01 to 7f alone are a text, and hold no zero byte: by recursion on the bytes. And whether all are such, as far as a loop has come.
-use Prim.Native.Nat.{ℕ, zero, suc, ◌+◌, ◌<◌, ◌≤◌}
+-- Bytes 01 to 7f alone are a text, and hold no zero byte: by recursion on the bytes.
+use Prim.Native.Nat.{ℕ, zero, suc, ◌<◌}
 use mathlib.Core.Path.{◌≡◌, refl, sym, ap, ◌∙◌}
 use mathlib.Core.Bool.{Bool, true, false, cond, ◌&&◌}
 use mathlib.Core.List.{List, [], ◌∷◌, ◌++◌}
 use native.Mathlib.Omega.{arith}
 use lib.Dec.{eqb, ltb}
-use lib.ListN.{length, get_or, drop, length-append}
+use lib.ListN.{length, get_or, length-append}
 use lib.Seq.{get_or_at}
 use borrow.Author.Tests.{ne_eqb, ltb-true}
+use Rattle.std.specs.Prelude.{None}
+use Rattle.std.proofs.lemmas.List.Folds.{list_all-append}
 use Rattle.words.specs.Members.{among}
-use Rattle.words.proofs.EachLaws.{both, all_on, all_end}
+use Rattle.words.proofs.EachLaws.{both}
 use Rattle.text.specs.Grammar.{one, WellFormedUtf8, end, char, IsText}
 use Rattle.text.specs.Decision.{goes_wrong_of}
-use Rattle.text.specs.declared.Wrong.TheVariants.{Nowhere}
 use Rattle.text.proofs.GoesWrong.{nowhere_exactly}
 use Rattle.fields.specs.Value.{record_shape, shaped_of, value_of}
 use Rattle.fields.specs.declared.value.Shape.{Shape}
@@ -20,23 +21,17 @@ use Rattle.fields.specs.declared.value.Value.{Value}
 use Rattle.rows.specs.Fit.{is_bad_text}
 use Rattle.rows.specs.Plain.{plain_byte, is_plain}
 
--- ---- as far as a loop has come
-and_again : (a b c : Bool) → ((a && b) && c) ≡ (a && (b && c))
-and_again true b c = refl
-and_again false b c = refl
+-- with one byte more
+pub plain_more : (ys : List ℕ) (a b : Bool) (x : ℕ) → a ≡ is_plain ys → b ≡ ((a && ltb 0 x) && ltb x 0x80) → b ≡ is_plain (ys ++ (x ∷ []))
+plain_more ys a b x h e = e ∙ by a (ltb 0 x) (ltb x 0x80) ∙ ap (λ (t : Bool). t && (plain_byte x && true)) h ∙ sym (list_all-append plain_byte ys (x ∷ []))
+  where
+    by : (a p q : Bool) → ((a && p) && q) ≡ (a && ((p && q) && true))
+    by false p q = refl
+    by true false q = refl
+    by true true true = refl
+    by true true false = refl
 
-and_true : (a : Bool) → (a && true) ≡ a
-and_true true = refl
-and_true false = refl
-
-module _ (d : List ℕ) (i : ℕ) (all : Bool) (h : (all && is_plain (drop i d)) ≡ is_plain d) where
-  pub plain_on : i < length d → ((all && plain_byte (get_or d i 0)) && is_plain (drop (i + 1) d)) ≡ is_plain d
-  plain_on l = and_again all (plain_byte (get_or d i 0)) (is_plain (drop (i + 1) d)) ∙ ap (◌&&◌ all) (sym (all_on plain_byte d 0 i l)) ∙ h
-
-  pub plain_end : length d ≤ i → all ≡ is_plain d
-  plain_end l = sym (and_true all) ∙ ap (◌&&◌ all) (sym (all_end plain_byte d 0 i l)) ∙ h
-
--- ---- what it says
+-- what it says
 record Between (b : ℕ) : Type 0 where
   above : 0 < b
   below : b < 128
@@ -82,7 +77,7 @@ sized_fine : (b : Bool) (v : Value) → is_bad_text v ≡ false → is_bad_text 
 sized_fine true v h = h
 sized_fine false v h = refl
 
-shaped_fine : (s : Shape) (d : List ℕ) → goes_wrong_of d ≡ Nowhere → is_bad_text (shaped_of s d) ≡ false
+shaped_fine : (s : Shape) (d : List ℕ) → goes_wrong_of d ≡ None → is_bad_text (shaped_of s d) ≡ false
 shaped_fine Shape.Uuid d h = sized_fine (eqb (length d) 16) _ refl
 shaped_fine Shape.Time d h = sized_fine (eqb (length d) 4) _ refl
 shaped_fine Shape.Word d h = sized_fine (eqb (length d) 4) _ refl

@@ -9,6 +9,7 @@ use lib.Dec.{eqb}
 use lib.ListN.{length, take, drop, length-append, length-take, length-drop, take-append-drop}
 use lib.Seq.{take_at, drop_at, drop-drop}
 use borrow.Author.Tests.{eqb-true, eqb-false}
+use Rattle.std.specs.Prelude.{Ok, Err}
 use Rattle.words.specs.Each.{Each}
 use Rattle.words.specs.Numbers.{Bytes}
 use Rattle.words.proofs.ByteLaws.{bytes_take, bytes_drop}
@@ -16,7 +17,7 @@ use Rattle.words.proofs.EachLaws.{both}
 use Rattle.rows.specs.Login.{Login, row_of, table_of}
 use Rattle.rows.specs.Fit.{Fits}
 use Rattle.rows.specs.Import.{row_at, count_of, fine_row, login_in, import_from}
-use Rattle.rows.specs.declared.Imported.TheVariants as imported
+use Rattle.rows.specs.declared.RowRefusal.{RowRefusal}
 use Rattle.rows.proofs.Back.{row_long, fits_fine, fine_fits, fine_back}
 
 -- ---- the rows of logins
@@ -50,7 +51,7 @@ row_of_lem before l others =
     ap (λ (k : ℕ). take 256 (drop (256 * k) t)) (sym (zero-add (length before))) ∙ ap (take 256) (behind before (l ∷ others) t 0 refl) ∙ table_first l others
 
 -- ---- from logins that fit to an import that is accepted
-pub imported_all : (t : List ℕ) (n : ℕ) (ls : List Login) → drop (256 * n) t ≡ table_of ls → Each Fits ls → import_from t n (length ls) ≡ imported.Rows (n + length ls)
+pub imported_all : (t : List ℕ) (n : ℕ) (ls : List Login) → drop (256 * n) t ≡ table_of ls → Each Fits ls → import_from t n (length ls) ≡ Ok (n + length ls)
 unfolding import_from
 imported_all t n [] e f = rw (add-zero n)
 imported_all t n (l ∷ ls) e f =
@@ -122,23 +123,26 @@ none_cut t f = by (count_of t) refl f
 
 -- ---- what the rows say of an import
 module _ (t : List ℕ) where
-  pub rows_fine : (n m k : ℕ) → import_from t n m ≡ imported.Rows k → (k ≡ n + m) × FineFrom t n m
+  pub rows_fine : (n m k : ℕ) → import_from t n m ≡ Ok k → (k ≡ n + m) × FineFrom t n m
   unfolding import_from
   rows_fine n zero k e = (let i : k ≡ n = cc in omega arith, λ j p q. absurd (omega arith))
   rows_fine n (suc m) k e = by (fine_row (row_at t n)) refl e (rows_fine (n + 1) m k)
     where
-      by : (b : Bool) → fine_row (row_at t n) ≡ b → cond b (import_from t (n + 1) m) (imported.Refused n) ≡ imported.Rows k
-          → (import_from t (n + 1) m ≡ imported.Rows k → (k ≡ n + 1 + m) × FineFrom t (n + 1) m) → (k ≡ n + suc m) × FineFrom t n (suc m)
+      by : (b : Bool) → fine_row (row_at t n) ≡ b → cond b (import_from t (n + 1) m) (Err (record { number = n })) ≡ Ok k
+          → (import_from t (n + 1) m ≡ Ok k → (k ≡ n + 1 + m) × FineFrom t (n + 1) m) → (k ≡ n + suc m) × FineFrom t n (suc m)
       by true g e ih = let x = ih e in (omega (arith, x.0), λ j p q. fine_first t n m g x.1 j p (omega arith))
-      by false g e ih = absurd (let z : ◌≡◌ {A = ℕ} 0 1 = cc in omega arith)
+      by false g e ih = absurd (cc)
 
-  pub refused_at : (n m k : ℕ) → import_from t n m ≡ imported.Refused k → (n ≤ k) × (k < n + m) × (fine_row (row_at t k) ≡ false) × FineFrom t n (k - n)
+  pub refused_at : (n m k : ℕ) → import_from t n m ≡ Err (record { number = k }) → (n ≤ k) × (k < n + m) × (fine_row (row_at t k) ≡ false) × FineFrom t n (k - n)
   unfolding import_from
-  refused_at n zero k e = absurd (let z : ◌≡◌ {A = ℕ} 0 1 = cc in omega arith)
+  refused_at n zero k e = absurd (cc)
   refused_at n (suc m) k e = by (fine_row (row_at t n)) refl e (refused_at (n + 1) m k)
     where
-      by : (b : Bool) → fine_row (row_at t n) ≡ b → cond b (import_from t (n + 1) m) (imported.Refused n) ≡ imported.Refused k
-          → (import_from t (n + 1) m ≡ imported.Refused k → (n + 1 ≤ k) × (k < n + 1 + m) × (fine_row (row_at t k) ≡ false) × FineFrom t (n + 1) (k - (n + 1)))
+      by : (b : Bool) → fine_row (row_at t n) ≡ b → cond b (import_from t (n + 1) m) (Err (record { number = n })) ≡ Err (record { number = k })
+          → (import_from t (n + 1) m ≡ Err (record { number = k }) → (n + 1 ≤ k) × (k < n + 1 + m) × (fine_row (row_at t k) ≡ false) × FineFrom t (n + 1) (k - (n + 1)))
           → (n ≤ k) × (k < n + suc m) × (fine_row (row_at t k) ≡ false) × FineFrom t n (k - n)
       by true g e ih = let x = ih e in (omega (arith, x.0), omega (arith, x.1), x.2, λ j p q. fine_first t n (k - (n + 1)) g x.3 j p (omega (arith, x.0)))
-      by false g e ih = let i : k ≡ n = cc in (omega arith, omega arith, ap (λ (x : ℕ). fine_row (row_at t x)) i ∙ g, λ j p q. absurd (omega arith))
+      by false g e ih =
+          let j : ◌≡◌ {A = RowRefusal} (record { number = n }) (record { number = k }) = cc in
+          let i : k ≡ n = sym (ap (λ (x : RowRefusal). x.number) j) in
+          (omega arith, omega arith, ap (λ (x : ℕ). fine_row (row_at t x)) i ∙ g, λ j p q. absurd (omega arith))

@@ -1,9 +1,8 @@
 -- Texts in columns: a text that fits is what its column holds, and a fine column is its text padded. Both by how many bytes stand before the first zero byte, for any width.
 use Prim.Native.Nat.{ℕ, zero, suc, ◌-◌, ◌≤◌}
 use mathlib.Core.Path.{◌≡◌, refl, sym, ap, ◌∙◌}
-use mathlib.Core.Bool.{Bool, true, false, cond, not, ◌||◌}
+use mathlib.Core.Bool.{Bool, true, false, not, ◌||◌}
 use mathlib.Core.List.{List, [], ◌∷◌, ◌++◌}
-use native.Mathlib.Omega.{arith}
 use lib.Dec.{eqb, ltb}
 use lib.ListN.{length, take-append-drop}
 use lib.Seq.{take_at, drop_at, length-take-le}
@@ -17,9 +16,10 @@ use Rattle.rows.specs.Login.{padded}
 use Rattle.rows.specs.Fit.{is_bad_text, unfit}
 use Rattle.rows.specs.Import.{before_zero, text_in, behind_text, fine_column}
 use Rattle.rows.proofs.Padding.{padded_is}
+use Rattle.rows.proofs.Zero.{before_most}
 
 neither : (a b : Bool) → (a || b) ≡ false → (a ≡ false) × (b ≡ false)
-neither true b h = absurd (let z : ◌≡◌ {A = ℕ} 0 1 = cc in omega arith)
+neither true b h = absurd (cc)
 neither false b h = (refl, h)
 
 pub text_fits : (k n : ℕ) (d : List ℕ) → unfit k n d ≡ false → (length d ≤ n) × (among 0 d ≡ false)
@@ -53,14 +53,8 @@ module _ (k n : ℕ) (d : List ℕ) (h : unfit k n d ≡ false) where
       let z : behind_text (padded n d) ≡ zeros (n - length d) = rw (before_is, column_is) (drop_at d (zeros (n - length d)) (length d) refl) in
       rw (text_back, h, z, before_is) (same_refl (zeros (n - length d)))
 
-before_most : (c : List ℕ) → before_zero c ≤ length c
-unfolding before_zero
-before_most [] = omega arith
-before_most (b ∷ c) = by (eqb b 0) (before_most c)
-  where
-    by : (t : Bool) → before_zero c ≤ length c → cond t 0 (suc (before_zero c)) ≤ suc (length c)
-    by true h = omega arith
-    by false h = omega arith
+pub text_long : (c : List ℕ) → length (text_in c) ≡ before_zero c
+text_long c = length-take-le (before_zero c) c (before_most c)
 
 module _ (k n : ℕ) (c : List ℕ) (h : fine_column k n c ≡ true) where
   tests : (not (unfit k n (text_in c)) ≡ true) × (same (behind_text c) (zeros (n - before_zero c)) ≡ true)
@@ -72,6 +66,5 @@ module _ (k n : ℕ) (c : List ℕ) (h : fine_column k n c ≡ true) where
 
   pub fine_column_lem : padded n (text_in c) ≡ c
   fine_column_lem =
-      let l : length (text_in c) ≡ before_zero c = length-take-le (before_zero c) c (before_most c) in
       padded_is n (text_in c) (text_fits k n (text_in c) fine_text).0
-      ∙ rw (l, sym (same_true (behind_text c) (zeros (n - before_zero c)) tests.1)) (take-append-drop (before_zero c) c)
+      ∙ rw (text_long c, sym (same_true (behind_text c) (zeros (n - before_zero c)) tests.1)) (take-append-drop (before_zero c) c)

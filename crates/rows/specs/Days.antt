@@ -6,23 +6,12 @@ use Rattle.fields.specs.declared.value.Value.{Value}
 unfoldable pub days_between : ℕ → ℕ → ℕ
 days_between expiry now = (expiry + 86400 * 2 ^ 32 - now) / 86400 % 2 ^ 32
 
--- the seconds of an expiry; none is as 0
-abbrev pub seconds_in : Value → ℕ
-seconds_in Value.Empty = 0
-seconds_in Value.End = 0
-seconds_in (Value.Uuid a b) = 0
-seconds_in (Value.Time s) = s
-seconds_in (Value.Number n) = 0
-seconds_in (Value.Flag t) = 0
-seconds_in Value.Text = 0
-seconds_in (Value.BadText n) = 0
-seconds_in Value.Misshapen = 0
-seconds_in Value.Opaque = 0
-
 -- the stored number w stands for the d with 86,400 d ≤ expiry - now < 86,400 (d + 1): for w itself at or ahead of now, and behind now for -k, where w + k is 2^32
 pub record Rounded (expiry now w : ℕ) : Type 0 where
   pub ahead : now ≤ expiry → (86400 * w ≤ expiry - now) × (expiry - now < 86400 * (w + 1))
   pub behind : expiry < now → (k : ℕ) × (w + k ≡ 2 ^ 32) × (1 ≤ k) × (86400 * (k - 1) < now - expiry) × (now - expiry ≤ 86400 * k)
 
+-- the days of an expiry
 unfoldable pub days_of : Value → ℕ → ℕ
-days_of expiry now = cond (eqb (seconds_in expiry) 0) 2147483647 (days_between (seconds_in expiry) now)
+days_of (Value.Time s) now = cond (eqb s 0) 2147483647 (days_between s now)
+days_of _ now = 2147483647

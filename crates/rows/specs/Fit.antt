@@ -6,28 +6,12 @@ use Rattle.fields.specs.declared.value.Value.{Value}
 use Rattle.rows.specs.Login.{Login}
 
 abbrev pub is_bad_text : Value → Bool
-is_bad_text Value.Empty = false
-is_bad_text Value.End = false
-is_bad_text (Value.Uuid a b) = false
-is_bad_text (Value.Time s) = false
-is_bad_text (Value.Number n) = false
-is_bad_text (Value.Flag t) = false
-is_bad_text Value.Text = false
 is_bad_text (Value.BadText n) = true
-is_bad_text Value.Misshapen = false
-is_bad_text Value.Opaque = false
+is_bad_text _ = false
 
 abbrev pub is_misshapen : Value → Bool
-is_misshapen Value.Empty = false
-is_misshapen Value.End = false
-is_misshapen (Value.Uuid a b) = false
-is_misshapen (Value.Time s) = false
-is_misshapen (Value.Number n) = false
-is_misshapen (Value.Flag t) = false
-is_misshapen Value.Text = false
-is_misshapen (Value.BadText n) = false
 is_misshapen Value.Misshapen = true
-is_misshapen Value.Opaque = false
+is_misshapen _ = false
 
 -- d: the data of a record's field of type k, for a room of n bytes
 unfoldable pub unfit : ℕ → ℕ → List ℕ → Bool

@@ -1,14 +1,12 @@
 -- "Import gives the values of such a table back; it refuses as 18, at the first such record, a cut record, a text that export would refuse or that has anything but zeros after it, and a non-zero pad." (document 02, Q-6)
-use Rattle.std.specs.Prelude.{ℕ, zero, suc, ◌+◌, ◌-◌, ◌*◌, ◌/◌, ◌≡◌, Bool, cond, not, ◌&&◌, List, [], ◌∷◌, eqb, leb, length, take, drop}
+use Rattle.std.specs.Prelude.{ℕ, zero, suc, ◌+◌, ◌-◌, ◌*◌, ◌/◌, ◌≡◌, Bool, cond, not, ◌&&◌, List, [], ◌∷◌, eqb, leb, length, take, drop, Option, Some, None, Result, Ok, Err}
 use Rattle.words.specs.Numbers.{number_low, Bytes}
 use Rattle.words.specs.Slices.{zeros, same}
+use Rattle.fields.specs.Value.{uuid_in}
 use Rattle.rows.specs.Login.{Login}
 use Rattle.rows.specs.Fit.{unfit}
-use Rattle.rows.specs.declared.Imported.{Imported}
-use Rattle.rows.specs.declared.Imported.TheVariants as imported
+use Rattle.rows.specs.declared.RowRefusal.{RowRefusal}
 use Rattle.rows.specs.declared.Values.{Values}
-use Rattle.rows.specs.declared.Shown.{Shown}
-use Rattle.rows.specs.declared.Shown.TheVariants as shown
 
 -- the bytes of row n, from 0; fewer than 256 where it is cut
 abbrev pub row_at : List ℕ → ℕ → List ℕ
@@ -58,19 +56,18 @@ login_in r =
     }
 
 -- of a table of which the first n rows are fine, and m more are left: how many there are, or the first at fault
-unfoldable pub import_from : List ℕ → ℕ → ℕ → Imported
-import_from t n zero = imported.Rows n
-import_from t n (suc m) = cond (fine_row (row_at t n)) (import_from t (n + 1) m) (imported.Refused n)
+unfoldable pub import_from : List ℕ → ℕ → ℕ → Result ℕ RowRefusal
+import_from t n zero = Ok n
+import_from t n (suc m) = cond (fine_row (row_at t n)) (import_from t (n + 1) m) (Err (record { number = n }))
 
-unfoldable pub import_of : List ℕ → Imported
+unfoldable pub import_of : List ℕ → Result ℕ RowRefusal
 import_of t = import_from t 0 (count_of t)
 
--- a login as the code hands it on: its UUID in two halves, bytes 0 to 7 and bytes 8 to 15, and the lengths of its texts, which stand in the row
+-- a login as the code hands it on: its UUID, in two halves, and the lengths of its texts, which stand in the row
 abbrev pub values_of : Login → Values
 values_of l =
     record {
-      low = number_low (take 8 l.uuid);
-      high = number_low (take 8 (drop 8 l.uuid));
+      uuid = uuid_in l.uuid;
       title = length l.title;
       user = length l.user;
       group = length l.group;
@@ -78,16 +75,16 @@ values_of l =
     }
 
 -- the values of row n, or that it is refused; nothing where the table has no such row
-unfoldable pub show_of : List ℕ → ℕ → Shown
+unfoldable pub show_of : List ℕ → ℕ → Result (Option Values) RowRefusal
 show_of t n =
-    cond (leb (length t) (256 * n)) shown.Nowhere
-    (cond (fine_row (row_at t n)) (shown.Of (values_of (login_in (row_at t n)))) shown.Refused)
+    cond (leb (length t) (256 * n)) (Ok None)
+    (cond (fine_row (row_at t n)) (Ok (Some (values_of (login_in (row_at t n))))) (Err (record { number = n })))
 
 -- what a call of `import` and one of `row` ensure
-pub record Imports (table : List ℕ) (answer : Imported) : Type 0 where
+pub record Imports (table : List ℕ) (answer : Result ℕ RowRefusal) : Type 0 where
   pub bytes : Bytes table
   pub is_answer : answer ≡ import_of table
 
-pub record Shows (table : List ℕ) (number : ℕ) (answer : Shown) : Type 0 where
+pub record Shows (table : List ℕ) (number : ℕ) (answer : Result (Option Values) RowRefusal) : Type 0 where
   pub bytes : Bytes table
   pub is_answer : answer ≡ show_of table number

@@ -1,14 +1,11 @@
 -- What an answer of an import, and one of a look at a row, say over the logins of a table (document 02, Q-6).
-use Rattle.std.specs.Prelude.{ℕ, ◌+◌, ◌*◌, ◌<◌, ◌≤◌, ◌≡◌, true, false, List, length, take, drop}
+use Rattle.std.specs.Prelude.{ℕ, ◌+◌, ◌*◌, ◌<◌, ◌≤◌, ◌≡◌, true, false, List, length, take, drop, Option, Some, None, Result, Ok, Err}
 use Rattle.words.specs.Each.{Each}
 use Rattle.rows.specs.Login.{Login, row_of, table_of}
 use Rattle.rows.specs.Fit.{Fits}
 use Rattle.rows.specs.Import.{row_at, fine_row, values_of}
-use Rattle.rows.specs.declared.Imported.{Imported}
-use Rattle.rows.specs.declared.Imported.TheVariants as imported
+use Rattle.rows.specs.declared.RowRefusal.{RowRefusal}
 use Rattle.rows.specs.declared.Values.{Values}
-use Rattle.rows.specs.declared.Shown.{Shown}
-use Rattle.rows.specs.declared.Shown.TheVariants as shown
 
 -- the table has a row for each of these logins, in order, and each fits its row
 pub record Holds (table : List ℕ) (ls : List Login) : Type 0 where
@@ -22,9 +19,9 @@ pub record FaultyRow (table : List ℕ) (n : ℕ) : Type 0 where
   pub before : (k : ℕ) → k < n → fine_row (row_at table k) ≡ true
 
 -- what each answer of an import says
-abbrev pub ImportSays : List ℕ → Imported → Type 0
-ImportSays table (imported.Rows n) = (ls : List Login) × Holds table ls × (n ≡ length ls)
-ImportSays table (imported.Refused n) = FaultyRow table n
+abbrev pub ImportSays : List ℕ → Result ℕ RowRefusal → Type 0
+ImportSays table (Ok n) = (ls : List Login) × Holds table ls × (n ≡ length ls)
+ImportSays table (Err r) = FaultyRow table r.number
 
 -- row n is that of a login that fits, and v are its values: the texts stand where their rooms start
 pub record RowIs (table : List ℕ) (n : ℕ) (login : Login) (v : Values) : Type 0 where
@@ -37,7 +34,7 @@ pub record RowIs (table : List ℕ) (n : ℕ) (login : Login) (v : Values) : Typ
   pub group : login.group ≡ take v.group (drop (256 * n + 176) table)
 
 -- what each answer for row n says
-abbrev pub RowSays : List ℕ → ℕ → Shown → Type 0
-RowSays table n (shown.Of v) = (l : Login) × RowIs table n l v
-RowSays table n shown.Refused = (256 * n < length table) × (fine_row (row_at table n) ≡ false)
-RowSays table n shown.Nowhere = length table ≤ 256 * n
+abbrev pub RowSays : List ℕ → ℕ → Result (Option Values) RowRefusal → Type 0
+RowSays table n (Ok (Some v)) = (l : Login) × RowIs table n l v
+RowSays table n (Ok None) = length table ≤ 256 * n
+RowSays table n (Err r) = (256 * n < length table) × (fine_row (row_at table n) ≡ false) × (r.number ≡ n)

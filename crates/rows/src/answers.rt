@@ -1,34 +1,15 @@
-// The numbers of an answer.
+// The numbers of an answer, none of which C has as an Option: talc_import and talc_row, clauses TalcImport and TalcRow.
 ghost use Rattle.std.specs.Prelude.{◌≡◌};
-ghost use Rattle.rows.specs.Answers.{import_number, import_numbers, row_number, row_numbers, signed as signed_of};
+ghost use Rattle.rows.specs.Answers.{import_numbers, row_numbers, signed as signed_of};
 
-use crate::{Imported, Shown};
+use crate::{RowRefusal, Values};
 
-pub fn import_number(r: Imported) -> u32
-    ensures { result ≡ import_number r }
-{
-    match r {
-        Imported::Rows(_) => 0,
-        Imported::Refused(_) => 18,
-    }
-}
-
-pub fn import_numbers(r: Imported) -> [u64; 2]
+pub fn import_numbers(r: Result<usize, RowRefusal>) -> [u64; 2]
     ensures { result ≡ import_numbers r }
 {
     match r {
-        Imported::Rows(count) => [count as u64, 0],
-        Imported::Refused(row) => [0, row as u64],
-    }
-}
-
-pub fn row_number(s: Shown) -> u32
-    ensures { result ≡ row_number s }
-{
-    match s {
-        Shown::Of(_) => 0,
-        Shown::Refused => 18,
-        Shown::Nowhere => 0,
+        Ok(count) => [count as u64, 0],
+        Err(refusal) => [0, refusal.number as u64],
     }
 }
 
@@ -36,26 +17,22 @@ pub fn row_number(s: Shown) -> u32
 fn signed(d: u32) -> u64
     ensures { result ≡ signed_of d }
 {
-    if d < 2147483648 {
-        return d as u64;
-    }
-    (d as u64) + 18446744069414584320
+    i64::from(d.cast_signed()).cast_unsigned()
 }
 
-pub fn row_numbers(s: Shown) -> [u64; 7]
-    ensures { result ≡ row_numbers s }
+pub fn row_numbers(r: Result<Option<Values>, RowRefusal>) -> [u64; 7]
+    ensures { result ≡ row_numbers r }
 {
-    match s {
-        Shown::Of(v) => [
-            1,
-            v.low,
-            v.high,
-            v.title as u64,
-            v.user as u64,
-            v.group as u64,
-            signed(v.days),
-        ],
-        Shown::Refused => [0; 7],
-        Shown::Nowhere => [0; 7],
-    }
+    let Ok(Some(v)) = r else {
+        return [0; 7];
+    };
+    [
+        1,
+        v.uuid.low,
+        v.uuid.high,
+        v.title as u64,
+        v.user as u64,
+        v.group as u64,
+        signed(v.days),
+    ]
 }

@@ -18,6 +18,7 @@ use Rattle.file.proofs.Ends as Ends
 use Rattle.safe.specs.V3.{v3_edition}
 use Rattle.safe.specs.declared.Reading.{Reading}
 use Rattle.safe.proofs.V3Laws.{v3_laws}
+use Rattle.safe.specs.Answers.{k_given, l_given}
 use Rattle.safe.specs.Calls.{number_of, Reads, Accepts}
 use Rattle.safe.proofs.Contracts.{number_is, k_is, l_is}
 
@@ -59,11 +60,11 @@ module _ {file passphrase before after : List ℕ} {ceiling : ℕ} {r : Reading}
   )
 
   -- the keys of an answer have 32 bytes: those of a safe, or zeros
-  pub keys_long : (length r.k ≡ 32) × (length r.l ≡ 32)
+  pub keys_long : (length (k_given r.outcome) ≡ 32) × (length (l_given r.outcome) ≡ 32)
   unfolding refused
   keys_long = go (eqb report.number 0) refl
     where
-      go : (b : Bool) → eqb report.number 0 ≡ b → (length r.k ≡ 32) × (length r.l ≡ 32)
+      go : (b : Bool) → eqb report.number 0 ≡ b → (length (k_given r.outcome) ≡ 32) × (length (l_given r.outcome) ≡ 32)
       go true e =
           let s = (is_read (number_is c.reports ∙ eqb-true report.number 0 e)).is_safe in
           (ap length (k_is c.reports) ∙ s.K_sized.long, ap length (l_is c.reports) ∙ s.L_sized.long)

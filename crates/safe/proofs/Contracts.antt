@@ -5,13 +5,14 @@ use mathlib.Core.Bool.{cond}
 use mathlib.Core.List.{List}
 use lib.Dec.{eqb}
 use lib.ListN.{length}
+use Rattle.words.specs.Slices.{zeros}
+use Rattle.std.specs.Prelude.{Result, Ok, Err}
 use Rattle.file.specs.Reading.{Report, workspace_of}
-use Rattle.safe.specs.Answers.{refusal_number, outcome_number, header_count, record_count, written_number, reported}
+use Rattle.safe.specs.Answers.{refusal_number, answer_number, k_given, l_given, header_count, record_count, reported}
 use Rattle.safe.specs.Calls.{Reports}
 use Rattle.safe.specs.declared.Refusal.{Refusal}
 use Rattle.safe.specs.declared.Refusal.TheVariants.{Length, Passphrase, Room, Tag, Floor, Ceiling, Marker, Check, Body, Block}
-use Rattle.safe.specs.declared.Outcome.{Outcome}
-use Rattle.safe.specs.declared.Written.{Written}
+use Rattle.safe.specs.declared.Opened.{Opened}
 use Rattle.safe.specs.declared.Reading.{Reading}
 
 -- the refusal of a number
@@ -35,27 +36,28 @@ refused_said done refuse Block = refl
 
 -- ---- reading
 
-abbrev outcome_of : ℕ → ℕ → ℕ → Outcome
-outcome_of n h m = cond (eqb n 0) (Outcome.Accepted h m) (Outcome.Refused (refusal_of n))
+abbrev pub opened : (K L : List ℕ) → ℕ → ℕ → Opened
+opened K L h m = record { keys = record { k = K; l = L }; counts = record { headers = h; records = m } }
 
-outcome_said : (o : Outcome) → outcome_of (outcome_number o) (header_count o) (record_count o) ≡ o
-outcome_said (Outcome.Accepted h m) = refl
-outcome_said (Outcome.Refused x) = refused_said (Outcome.Accepted 0 0) Outcome.Refused x
+abbrev outcome_of : ℕ → (K L : List ℕ) → ℕ → ℕ → Result Opened Refusal
+outcome_of n K L h m = cond (eqb n 0) (Ok (opened K L h m)) (Err (refusal_of n))
+
+outcome_said : (o : Result Opened Refusal) → outcome_of (answer_number o) (k_given o) (l_given o) (header_count o) (record_count o) ≡ o
+outcome_said (Ok o) = refl
+outcome_said (Err x) = refused_said (Ok (opened (zeros 32) (zeros 32) 0 0)) Err x
 
 -- the answer that a report tells
 abbrev reading_by : Report → Reading
 reading_by t =
     record {
-      outcome = outcome_of t.number t.headers t.records;
-      k = t.key_k;
-      l = t.key_l;
+      outcome = outcome_of t.number t.key_k t.key_l t.headers t.records;
       compressions = t.compressions;
       blocks = t.blocks;
     }
 
 reading_said : (r : Reading) (body : List ℕ) → reading_by (reported r body) ≡ r
 unfolding reported
-reading_said r body = λ i. record { outcome = outcome_said r.outcome i; k = r.k; l = r.l; compressions = r.compressions; blocks = r.blocks }
+reading_said r body = λ i. record { outcome = outcome_said r.outcome i; compressions = r.compressions; blocks = r.blocks }
 
 -- two answers of one report
 pub same_reading : {report : Report} {before before' after after' : List ℕ} {r r' : Reading} → Reports report before after r → Reports report before' after' r' → r ≡ r'
@@ -72,15 +74,15 @@ one_report {before' = before'} {after' = after'} {r' = r'} c c' e l = (
 
 -- the parts of the answer are those of the report
 module _ {report : Report} {before after : List ℕ} {r : Reading} (c : Reports report before after r) where
-  pub number_is : outcome_number r.outcome ≡ report.number
+  pub number_is : answer_number r.outcome ≡ report.number
   unfolding reported
   number_is = ap (λ (t : Report). t.number) c.answer
 
-  pub k_is : r.k ≡ report.key_k
+  pub k_is : k_given r.outcome ≡ report.key_k
   unfolding reported
   k_is = ap (λ (t : Report). t.key_k) c.answer
 
-  pub l_is : r.l ≡ report.key_l
+  pub l_is : l_given r.outcome ≡ report.key_l
   unfolding reported
   l_is = ap (λ (t : Report). t.key_l) c.answer
 
@@ -102,12 +104,12 @@ module _ {report : Report} {before after : List ℕ} {r : Reading} (c : Reports 
 
 -- ---- writing
 
-abbrev written_by : ℕ → Written
-written_by n = cond (eqb n 0) Written.Done (Written.Refused (refusal_of n))
+abbrev written_by : ℕ → Result Unit Refusal
+written_by n = cond (eqb n 0) (Ok tt) (Err (refusal_of n))
 
-written_said : (w : Written) → written_by (written_number w) ≡ w
-written_said Written.Done = refl
-written_said (Written.Refused x) = refused_said Written.Done Written.Refused x
+written_said : (w : Result Unit Refusal) → written_by (answer_number w) ≡ w
+written_said (Ok u) = refl
+written_said (Err x) = refused_said (Ok tt) Err x
 
-pub written_told : (w w' : Written) → written_number w ≡ written_number w' → w ≡ w'
+pub written_told : (w w' : Result Unit Refusal) → answer_number w ≡ answer_number w' → w ≡ w'
 written_told w w' e = sym (written_said w) ∙ ap written_by e ∙ written_said w'

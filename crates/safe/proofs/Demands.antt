@@ -9,6 +9,7 @@ use native.Mathlib.Omega.{arith}
 use lib.ListN.{length, take, drop}
 use Rattle.words.specs.Numbers.{Bytes, number_low, bytes_low}
 use Rattle.words.specs.Slices.{zeros}
+use Rattle.std.specs.Prelude.{Result}
 use Rattle.sha256.specs.Sha256.{sha256}
 use Rattle.sha256.specs.Hmac.{hmac_of}
 use Rattle.stretch.specs.Stretch.{start_of, step_of, stretched_of, key_of}
@@ -32,11 +33,11 @@ use Rattle.file.proofs.Ends as Ends
 use Rattle.file.proofs.Nine.{nine}
 use Rattle.file.proofs.Prefix.{no_prefix}
 use Rattle.safe.specs.V3.{v3, v3_edition, stretched_v3}
-use Rattle.safe.specs.Answers.{header_count, record_count, written_number, reported}
+use Rattle.safe.specs.Answers.{answer_number, k_given, l_given, header_count, record_count, reported}
 use Rattle.safe.specs.Steps.{Decrypts, Settles}
-use Rattle.safe.specs.declared.decrypt.Keys.{Keys}
+use Rattle.safe.specs.declared.decrypt.Decrypted.{Decrypted}
 use Rattle.safe.specs.declared.Reading.{Reading}
-use Rattle.safe.specs.declared.Written.{Written}
+use Rattle.safe.specs.declared.Refusal.{Refusal}
 use Rattle.safe.proofs.V3Laws.{v3_laws}
 use Rattle.safe.specs.Calls.{salt_in, iter_in, iv_in, encrypted_in, mac_in, blocks_in, stretched_in, key_k_in, key_l_in, last_state, Matching, number_of, OneToFour, OneToSeven, Reads, Accepts, Writes}
 use Rattle.safe.proofs.Contracts.{one_report, number_is, k_is, l_is, headers_are, records_are, written_told}
@@ -73,7 +74,7 @@ module _ {file passphrase before after : List ℕ} {ceiling : ℕ} {r : Reading}
   demand1_number = rw (number_is c.reports) (demand1 file passphrase ceiling (length before)).0
 
   pub demand1_refused : (number_of r ≡ 0 → ⊥)
-      → (r.k ≡ zeros 32) × (r.l ≡ zeros 32) × (header_count r.outcome ≡ 0) × (record_count r.outcome ≡ 0) × (after ≡ zeros (length before))
+      → (k_given r.outcome ≡ zeros 32) × (l_given r.outcome ≡ zeros 32) × (header_count r.outcome ≡ 0) × (record_count r.outcome ≡ 0) × (after ≡ zeros (length before))
   unfolding refused
   demand1_refused h =
       let d = (demand1 file passphrase ceiling (length before)).1 (λ e. h (number_is c.reports ∙ e)) in (
@@ -85,8 +86,8 @@ module _ {file passphrase before after : List ℕ} {ceiling : ℕ} {r : Reading}
       )
 
 -- Writing refused: all zero.
-pub demand1_write : {passphrase salt : List ℕ} {iter : ℕ} {K L iv body before after : List ℕ} {r : Written} → Writes passphrase salt iter K L iv body before after r
-    → (written_number r ≡ 0 → ⊥) → after ≡ zeros (length before)
+pub demand1_write : {passphrase salt : List ℕ} {iter : ℕ} {K L iv body before after : List ℕ} {r : Result Unit Refusal} → Writes passphrase salt iter K L iv body before after r
+    → (answer_number r ≡ 0 → ⊥) → after ≡ zeros (length before)
 demand1_write {passphrase} {salt} {iter} {K} {L} {iv} {body} {before} c h =
     c.output ∙ (Ends.write_told v3_edition passphrase salt iter K L iv body (length before) (λ e. h (c.number ∙ e))).1
 
@@ -154,23 +155,23 @@ module _ {file passphrase before after : List ℕ} {ceiling : ℕ} {r : Reading}
 
   -- Writing an accepted file's body again with its own passphrase, salt, ITER, keys and initial vector, into an output that holds it, gives the same file,
   -- byte for byte, then zeros.
-  pub demand2_again : Accepts file before after r K L body → {output output' : List ℕ} {r' : Written}
+  pub demand2_again : Accepts file before after r K L body → {output output' : List ℕ} {r' : Result Unit Refusal}
       → Writes passphrase (salt_in file) (iter_in file) K L (iv_in file) body output output' r' → length file ≤ length output
-      → (written_number r' ≡ 0) × (output' ≡ file ++ zeros (length output - length file))
+      → (answer_number r' ≡ 0) × (output' ≡ file ++ zeros (length output - length file))
   unfolding split
   demand2_again h {output} w fits =
       let a = (accepts_exactly c K L body).0 h in
       let e = Written.write_again v3_edition v3_laws file passphrase ceiling (length before) c.bytes K L body a (length output) fits in
       (w.number ∙ ap (λ (x : Writing). x.number) e, w.output ∙ ap (λ (x : Writing). x.output) e)
 
-module _ {passphrase salt : List ℕ} {iter : ℕ} {K L iv body before after : List ℕ} {r : Written} (c : Writes passphrase salt iter K L iv body before after r) where
+module _ {passphrase salt : List ℕ} {iter : ℕ} {K L iv body before after : List ℕ} {r : Result Unit Refusal} (c : Writes passphrase salt iter K L iv body before after r) where
   -- The writer accepts exactly what is a safe of some file and fits; and then the output is that file, and zeros to its end.
-  pub demand2_written : (written_number r ≡ 0) ↔ ((file : List ℕ) × IsSafe v3 passphrase file salt iter K L iv body × (length body + 200 ≤ length before))
+  pub demand2_written : (answer_number r ≡ 0) ↔ ((file : List ℕ) × IsSafe v3 passphrase file salt iter K L iv body × (length body + 200 ≤ length before))
   demand2_written =
       let e = Written.write_exactly v3_edition v3_laws passphrase salt iter K L iv body (length before) c.values in
       (λ h. e.0 (sym c.number ∙ h), λ z. c.number ∙ e.1 z)
 
-  module _ (h : written_number r ≡ 0) where
+  module _ (h : answer_number r ≡ 0) where
     pub demand2_output : (file : List ℕ) → IsSafe v3 passphrase file salt iter K L iv body → after ≡ file ++ zeros (length before - (length body + 200))
     demand2_output file z =
         c.output ∙ Written.output_is v3_edition v3_laws passphrase salt iter K L iv body (length before) c.values (sym c.number ∙ h)
@@ -289,12 +290,12 @@ module _ {file passphrase before after : List ℕ} {ceiling : ℕ} {r : Reading}
   -- The report is the count that the last step hands on, and nothing else sets it or adds to it; unless the reading ends in 1 to 8, the state it belongs to, before any
   -- zeroing, is the whole body decrypted: whatever meets the contract of `decrypt` hands on a memory, keys and a count, and whatever meets that of `settle` makes of them
   -- the answer of the call, and the front of its workspace.
-  pub counts_state : (OneToSeven (number_of r) → ⊥) → (number_of r ≡ 8 → ⊥) → {memory left : List ℕ} {keys : Keys} {r' : Reading}
-      → Decrypts file (stretched_in passphrase file) memory keys → Settles keys (mac_in file) r.compressions memory left r'
+  pub counts_state : (OneToSeven (number_of r) → ⊥) → (number_of r ≡ 8 → ⊥) → {memory left : List ℕ} {d : Decrypted} {r' : Reading}
+      → Decrypts file (stretched_in passphrase file) memory d → Settles d (mac_in file) r.compressions memory left r'
       → (memory ≡ decrypted (cbc_d twofish_cipher (key_k_in passphrase file)) (blocks_in file) (iv_in file) (encrypted_in file))
       × (length memory ≡ length file - 200)
-      × (keys.count ≡ 4 + blocks_in file)
-      × (r.blocks ≡ keys.count)
+      × (d.blocks ≡ 4 + blocks_in file)
+      × (r.blocks ≡ d.blocks)
       × (r ≡ r')
       × (after ≡ left ++ zeros (length before - length memory))
   counts_state past checked d e =
@@ -347,7 +348,7 @@ module _ {file passphrase before after : List ℕ} {ceiling : ℕ} {r : Reading}
       (λ past m n. ap (λ (u : Report). u.number)
       (matched v3_edition v3_laws file passphrase ceiling room c.bytes (late past) ((matching passphrase file).0 m) n))
 
-module _ {passphrase salt : List ℕ} {iter : ℕ} {K L iv body before after : List ℕ} {r : Written} (c : Writes passphrase salt iter K L iv body before after r) where
+module _ {passphrase salt : List ℕ} {iter : ℕ} {K L iv body before after : List ℕ} {r : Result Unit Refusal} (c : Writes passphrase salt iter K L iv body before after r) where
   -- the tests, of a body that is well formed or not
   abbrev write_tests_lem : Bool → List Test
   write_tests_lem good = write_tests v3 good passphrase iter K iv body (length before)
@@ -355,7 +356,7 @@ module _ {passphrase salt : List ℕ} {iter : ℕ} {K L iv body before after : L
   pub writing_numbers : (good : Bool) → map (λ (x : Test). x.number) (write_tests_lem good) ≡ 1 ∷ 2 ∷ 3 ∷ 5 ∷ 9 ∷ 10 ∷ []
   writing_numbers good = Ends.write_numbers v3 good passphrase iter K iv body (length before)
 
-  pub writing_first : (good : Bool) → ((good ≡ true) ↔ WellFormed body) → (k : ℕ) → 1 ≤ k → (written_number r ≡ k) ↔ First k (write_tests_lem good)
+  pub writing_first : (good : Bool) → ((good ≡ true) ↔ WellFormed body) → (k : ℕ) → 1 ≤ k → (answer_number r ≡ k) ↔ First k (write_tests_lem good)
   writing_first good is_good k from =
       let w = well_formed body c.values.body_bytes in
       let same = true_alike good (is_well_formed body) (λ h. w.1 (is_good.0 h), λ h. is_good.1 (w.0 h)) in
@@ -366,7 +367,7 @@ pub one_read : {file passphrase : List ℕ} {ceiling : ℕ} {before after after'
     → Reads file passphrase ceiling before after r → Reads file passphrase ceiling before after' r' → (r ≡ r') × (after ≡ after')
 one_read c c' = one_report c.reports c'.reports refl refl
 
-pub one_write : {passphrase salt : List ℕ} {iter : ℕ} {K L iv body before after after' : List ℕ} {r r' : Written}
+pub one_write : {passphrase salt : List ℕ} {iter : ℕ} {K L iv body before after after' : List ℕ} {r r' : Result Unit Refusal}
     → Writes passphrase salt iter K L iv body before after r → Writes passphrase salt iter K L iv body before after' r' → (r ≡ r') × (after ≡ after')
 one_write c c' = (written_told _ _ (c.number ∙ sym c'.number), c.output ∙ sym c'.output)
 

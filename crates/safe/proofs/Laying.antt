@@ -1,12 +1,13 @@
 -- A file laid part after part, its head, its body, marker and HMAC, is the file of the description: each part stands right behind those before it.
 use Prim.Native.Nat.{ℕ, ◌+◌, ◌-◌, ◌*◌, ◌/◌, ◌≤◌}
 use mathlib.Core.Path.{◌≡◌, refl, sym, ap, ap₂, ◌∙◌}
-use mathlib.Core.Bool.{true, false}
+use mathlib.Core.Bool.{Bool, true, false, not}
 use mathlib.Core.List.{List, [], ◌∷◌, ◌++◌, append_assoc, append-nil}
 use native.Mathlib.Omega.{arith}
-use borrow.Author.Tests.{eq-eqb, ne_eqb}
+use borrow.Author.Tests.{not-true, not-false}
 use lib.ListN.{length, take, drop, length-append, length-drop, length-replicate, drop_of_length-le}
 use lib.Seq.{take_at, drop_at, drop-drop, length-take-le}
+use Rattle.std.specs.Prelude.{Option, is_some}
 use Rattle.words.specs.Numbers.{byte_of, bytes_low}
 use Rattle.words.specs.Slices.{zeros}
 use Rattle.words.proofs.NumberLaws.{four_low, bytes_sized}
@@ -16,13 +17,14 @@ use Rattle.chain.specs.Modes.{cbc_e, encrypted}
 use Rattle.chain.specs.Memory.{encrypted_into}
 use Rattle.chain.specs.Twofish.{twofish_cipher}
 use Rattle.chain.proofs.MemoryLaws.{encrypted_into_lem}
-use Rattle.file.specs.Layout.{tag, marker, join, listed, glue, first_marker}
+use Rattle.file.specs.Layout.{tag, marker, join, listed, glue, marked_at}
 use Rattle.file.specs.Edition.{Stretched}
 use Rattle.file.specs.Description.{wrapped, cbc, parts_of, file_of}
 use Rattle.file.specs.Writing.{unwritten, written, clear}
-use Rattle.file.proofs.Markers.{clear_is}
+use Rattle.file.proofs.Markers.{marked_some}
 use Rattle.safe.specs.V3.{v3, stretched_v3}
 use Rattle.safe.specs.Laying.{head_of, Laid}
+use Rattle.safe.specs.declared.assemble.Values.{Values}
 use Rattle.safe.proofs.Slots.{laid}
 
 pub iter_bytes : (x : ℕ) {a b c d : ℕ} → a ≡ byte_of 0 x → b ≡ byte_of 1 x → c ≡ byte_of 2 x → d ≡ byte_of 3 x → a ∷ b ∷ c ∷ d ∷ [] ≡ bytes_low 4 x
@@ -105,39 +107,48 @@ file_is : (pass salt : List ℕ) (iter : ℕ) (K L iv body : List ℕ)
 unfolding head_of file_of join listed glue parts_of v3
 file_is pass salt iter K L iv body = simp (append_assoc, append-nil)
 
-module _ (pass salt : List ℕ) (iter : ℕ) (K L iv body : List ℕ) (n : ℕ) where
-  -- refused: a block of the body is the marker
-  pub laid_refused : (c r : List ℕ) {out : List ℕ} {j : ℕ} → c ≡ cbc v3 K iv body → length c ≡ length body → j ≡ first_marker (length r / 16) r → r ≡ c
-      → (j ≡ length body / 16 → ⊥) → out ≡ zeros n → Laid pass salt iter K L iv body n 10 out
+module _ (v : Values) (body : List ℕ) (n : ℕ) where
+  abbrev head : List ℕ
+  head = head_of (stretched_v3 v.passphrase.now v.salt.now v.iter) v.salt.now v.iter v.k.now v.l.now v.iv.now
+
+  abbrev cipher : List ℕ
+  cipher = cbc v3 v.k.now v.iv.now body
+
+  -- whether a block of the body is the marker
+  sought : (c r : List ℕ) {t : Bool} {j : Option ℕ} → c ≡ cipher → length c ≡ length body → j ≡ marked_at (length r / 16) r → r ≡ c → is_some j ≡ t
+      → not (clear (length body / 16) cipher) ≡ t
+  sought c r e l f g h =
+      sym (marked_some (length body / 16) cipher)
+      ∙ ap is_some (sym (f ∙ ap₂ marked_at (ap (λ (x : List ℕ). length x / 16) g ∙ ap (λ (m : ℕ). m / 16) l) (g ∙ e)))
+      ∙ h
+
+  -- refused: one is
+  pub laid_refused : (c r : List ℕ) {out : List ℕ} {j : Option ℕ} → c ≡ cipher → length c ≡ length body → j ≡ marked_at (length r / 16) r → r ≡ c
+      → is_some j ≡ true → out ≡ zeros n → Laid v body n 10 out
   unfolding unwritten
   laid_refused c r e l f g h z =
-      let q : clear (length body / 16) (cbc v3 K iv body) ≡ false =
-      sym (clear_is (length body / 16) (cbc v3 K iv body))
-      ∙ ne_eqb (first_marker (length body / 16) (cbc v3 K iv body)) (length body / 16)
-      (λ y. h (f ∙ ap₂ first_marker (ap (λ (x : List ℕ). length x / 16) g ∙ ap (λ (m : ℕ). m / 16) l) (g ∙ e) ∙ y)) in
-      record { is_number = rw q; is_output = rw q z }
+      let q : not (clear (length body / 16) cipher) ≡ true = sought c r e l f g h in
+      let o : clear (length body / 16) cipher ≡ false = not-true (clear (length body / 16) cipher) q in
+      record { is_number = rw o; is_output = rw o z }
 
-  pub laid_done : (c r m mac : List ℕ) {j : ℕ} {o₂ o₃ o₄ : List ℕ} → 200 + length body ≤ n → c ≡ cbc v3 K iv body → length c ≡ length body → length (head_of (stretched_v3 pass salt iter) salt iter K L iv) ≡ 152
-      → j ≡ first_marker (length r / 16) r → r ≡ c → j ≡ length body / 16
-      → m ≡ marker → mac ≡ hmac_of L (covered_of body) → length mac ≡ 32
-      → o₂ ≡ (head_of (stretched_v3 pass salt iter) salt iter K L iv ++ c) ++ zeros (n - 152 - length body)
+  pub laid_done : (c r m mac : List ℕ) {j : Option ℕ} {o₂ o₃ o₄ : List ℕ} → 200 + length body ≤ n → c ≡ cipher → length c ≡ length body → length head ≡ 152
+      → j ≡ marked_at (length r / 16) r → r ≡ c → is_some j ≡ false
+      → m ≡ marker → mac ≡ hmac_of v.l.now (covered_of body) → length mac ≡ 32
+      → o₂ ≡ (head ++ c) ++ zeros (n - 152 - length body)
       → Lays (152 + length body) m o₂ o₃ → Lays (152 + length body + 16) mac o₃ o₄
-      → Laid pass salt iter K L iv body n 0 o₄
+      → Laid v body n 0 o₄
   unfolding written v3 marker
   laid_done c r m mac {o₄ = o₄} h e l lh f g i em ea lm b₂ b₃ b₄ =
-      let H = head_of (stretched_v3 pass salt iter) salt iter K L iv in
-      let q : clear (length body / 16) (cbc v3 K iv body) ≡ true =
-      sym (clear_is (length body / 16) (cbc v3 K iv body))
-      ∙ eq-eqb (first_marker (length body / 16) (cbc v3 K iv body)) (length body / 16)
-      (sym (f ∙ ap₂ first_marker (ap (λ (x : List ℕ). length x / 16) g ∙ ap (λ (m : ℕ). m / 16) l) (g ∙ e)) ∙ i) in
+      let H = head in
+      let q : clear (length body / 16) cipher ≡ true = not-false (clear (length body / 16) cipher) (sought c r e l f g i) in
       let lmk : length m ≡ 16 = ap length em in
       let a₁ = length-append H c in
       let a₂ = length-append (H ++ c) m in
       let f₃ = laid (H ++ c) m (n - 152 - length body) (n - 168 - length body) {at = 152 + length body} (omega arith) (omega arith) b₂ b₃ in
       let f₄ = laid ((H ++ c) ++ m) mac (n - 168 - length body) (n - (length body + 200)) {at = 152 + length body + 16} (omega arith) (omega arith) f₃ b₄ in
-      let whole : o₄ ≡ file_of v3 pass salt iter K L iv body (covered_of body) ++ zeros (n - (length body + 200)) =
+      let whole : o₄ ≡ file_of v3 v.passphrase.now v.salt.now v.iter v.k.now v.l.now v.iv.now body (covered_of body) ++ zeros (n - (length body + 200)) =
       f₄
       ∙ ap₂ (λ (x y : List ℕ). (((H ++ x) ++ y) ++ mac) ++ zeros (n - (length body + 200))) e em
-      ∙ ap (λ (x : List ℕ). (((H ++ cbc v3 K iv body) ++ marker) ++ x) ++ zeros (n - (length body + 200))) ea
-      ∙ ap (λ (x : List ℕ). x ++ zeros (n - (length body + 200))) (file_is pass salt iter K L iv body) in
+      ∙ ap (λ (x : List ℕ). (((H ++ cipher) ++ marker) ++ x) ++ zeros (n - (length body + 200))) ea
+      ∙ ap (λ (x : List ℕ). x ++ zeros (n - (length body + 200))) (file_is v.passphrase.now v.salt.now v.iter v.k.now v.l.now v.iv.now body) in
       record { is_number = rw q; is_output = rw q whole }

@@ -1,6 +1,6 @@
 pub mod V3Laws
 mod Slots
-mod Opened
+mod HandedOn
 mod Verdicts
 mod Laying
 mod Writes

@@ -1,39 +1,40 @@
 -- The code's answers are the report's: an early refusal, a failed check, a body that is accepted or not. By the tests that each has passed.
 use Prim.Native.Nat.{ℕ, ◌+◌, ◌-◌, ◌*◌, ◌/◌, ◌≤◌}
-use mathlib.Core.Path.{◌≡◌, refl, sym, ap, ap₂, ◌∙◌, subst}
+use mathlib.Core.Path.{◌≡◌, refl, sym, ap, ap₂, ◌∙◌}
 use mathlib.Core.Bool.{Bool, true, false, cond, not}
 use mathlib.Core.List.{List, [], ◌++◌, append_assoc, append-nil}
 use native.Mathlib.Nat.{sub-zero}
 use native.Mathlib.Omega.{arith}
-use lib.Dec.{lit≤}
+use lib.Dec.{eqb, lit≤}
 use lib.ListN.{length, take, drop, length-replicate, length-drop, replicate-append-replicate}
-use lib.Seq.{take_all}
+use lib.Seq.{take_all, length-take-le}
 use Rattle.words.specs.Numbers.{number_low}
-use Rattle.words.specs.Slices.{zeros, same}
+use Rattle.words.specs.Slices.{zeros, copied, same}
+use Rattle.std.specs.Prelude.{Result, Ok, Err, Option, Some}
+use Rattle.std.specs.Option.{option_eq}
 use Rattle.sha256.specs.Hmac.{hmac_of}
 use Rattle.stretch.specs.Stretch.{start_of, step_of, stretched_of, key_of}
 use Rattle.stretch.specs.declared.Stretcher.{Stretcher}
 use Rattle.body.specs.Decision.{is_well_formed, covered_of, headers_of, records_of}
-use Rattle.body.specs.declared.Judged.{Judged}
-use Rattle.body.specs.declared.Judged.TheVariants.{Counts, NotWellFormed}
+use Rattle.body.specs.declared.Counts.{Counts}
 use Rattle.words.proofs.ByteLaws.{drop_same}
-use Rattle.file.specs.Layout.{split, first_marker}
+use Rattle.words.proofs.SliceLaws.{copied_whole}
+use Rattle.file.specs.Layout.{split, first_marker, marked_at}
 use Rattle.file.specs.Refusals.{Test}
 use Rattle.file.specs.Edition.{Stretched}
 use Rattle.file.specs.Reading.{Report, refused, accepted, workspace_of, early_tests, key_k, key_l, body_tests, settled, checked, reading_of}
 use borrow.Author.Tests.{ltb-false}
 use Rattle.file.proofs.Tables.{Decided, passes, stops, decide, first_between, by_zero, by_number}
+use Rattle.file.proofs.Markers.{marked_number}
 use Rattle.file.proofs.Accepted.{good_length}
 use Rattle.safe.specs.V3.{v3, v3_edition, stretched_v3}
-use Rattle.safe.specs.Answers.{refusal_number, early_number, reported}
-use Rattle.safe.specs.Calls.{blocks_in, Reports}
+use Rattle.safe.specs.Answers.{refusal_number, answer_number, reported}
+use Rattle.safe.specs.Calls.{salt_in, iter_in, blocks_in, Reports}
 use Rattle.safe.specs.Steps.{early_reading, Ready, state_under, Decrypts, verdict_of, Settles, settled_under, opened_by}
 use Rattle.safe.specs.declared.Refusal.{Refusal}
 use Rattle.safe.specs.declared.Refusal.TheVariants.{Length, Passphrase, Room, Tag, Floor, Ceiling, Marker, Check, Body, Block}
-use Rattle.safe.specs.declared.Early.{Early}
-use Rattle.safe.specs.declared.Outcome.TheVariants.{Accepted}
 use Rattle.safe.specs.declared.Reading.{Reading}
-use Rattle.safe.specs.declared.decrypt.Keys.{Keys}
+use Rattle.safe.specs.declared.decrypt.Decrypted.{Decrypted}
 
 pub positive : (x : Refusal) → 1 ≤ refusal_number x
 positive Length = lit≤ tt
@@ -77,28 +78,28 @@ module _ (file pass : List ℕ) (ceiling room : ℕ) where
   abbrev stretched : Stretched
   stretched = stretched_v3 pass (split file).salt (number_low (split file).iter)
 
-  early_refused : (x : Refusal) {t : Early} → early_number t ≡ early_reading file pass ceiling room → t ≡ Early.Refused x → reading_of v3_edition file pass ceiling room ≡ refused (refusal_number x) 0 0
+  early_refused : (x : Refusal) {t : Result Unit Refusal} → answer_number t ≡ early_reading file pass ceiling room → t ≡ Err x → reading_of v3_edition file pass ceiling room ≡ refused (refusal_number x) 0 0
   unfolding reading_of early_tests v3
   early_refused x e f =
-      let g : refusal_number x ≡ early_reading file pass ceiling room = sym (ap early_number f) ∙ e in
+      let g : refusal_number x ≡ early_reading file pass ceiling room = sym (ap answer_number f) ∙ e in
       by_number (λ (k : ℕ). refused k 0 0) (checked v3_edition (split file) stretched ((length file - 200) / 16)) 7
       (early_tests v3 (split file) ((length file - 200) / 16) file pass ceiling room) refl g (positive x)
 
-  early_passed : {t : Early} → early_number t ≡ early_reading file pass ceiling room → t ≡ Early.Passed → reading_of v3_edition file pass ceiling room ≡ checked v3_edition (split file) stretched ((length file - 200) / 16)
+  early_passed : {t : Result Unit Refusal} → answer_number t ≡ early_reading file pass ceiling room → t ≡ Ok tt → reading_of v3_edition file pass ceiling room ≡ checked v3_edition (split file) stretched ((length file - 200) / 16)
   unfolding reading_of early_tests v3
   early_passed e f =
-      let g : 0 ≡ early_reading file pass ceiling room = sym (ap early_number f) ∙ e in
+      let g : 0 ≡ early_reading file pass ceiling room = sym (ap answer_number f) ∙ e in
       by_zero (λ (k : ℕ). refused k 0 0) (checked v3_edition (split file) stretched ((length file - 200) / 16)) 7
       (early_tests v3 (split file) ((length file - 200) / 16) file pass ceiling room) refl g refl
 
-pub reads_refused : (file pass before : List ℕ) (ceiling : ℕ) (x : Refusal) {t : Early} {after : List ℕ} {r : Reading}
-    → early_number t ≡ early_reading file pass ceiling (length before) → t ≡ Early.Refused x → reported r [] ≡ refused (refusal_number x) 0 0
+pub reads_refused : (file pass before : List ℕ) (ceiling : ℕ) (x : Refusal) {t : Result Unit Refusal} {after : List ℕ} {r : Reading}
+    → answer_number t ≡ early_reading file pass ceiling (length before) → t ≡ Err x → reported r [] ≡ refused (refusal_number x) 0 0
     → after ≡ zeros (length before) → Reports (reading_of v3_edition file pass ceiling (length before)) before after r
 reads_refused file pass before ceiling x e f a m =
     refused_reports (refusal_number x) 0 0 (early_refused file pass ceiling (length before) x e f) a m
 
-pub reads_passed : (file pass before zeroed : List ℕ) (ceiling : ℕ) {t : Early} {after : List ℕ} {r : Reading}
-    → early_number t ≡ early_reading file pass ceiling (length before) → t ≡ Early.Passed → zeroed ≡ zeros (length before)
+pub reads_passed : (file pass before zeroed : List ℕ) (ceiling : ℕ) {t : Result Unit Refusal} {after : List ℕ} {r : Reading}
+    → answer_number t ≡ early_reading file pass ceiling (length before) → t ≡ Ok tt → zeroed ≡ zeros (length before)
     → Reports (opened_by pass file) zeroed after r
     → Reports (reading_of v3_edition file pass ceiling (length before)) before after r
 reads_passed file pass before zeroed ceiling {after = after} {r = r} e f z x =
@@ -110,37 +111,38 @@ reads_passed file pass before zeroed ceiling {after = after} {r = r} e f z x =
     }
 
 -- the marker, sought in the rest of the file
-pub marker_from : (file : List ℕ) (n : ℕ) {r : ℕ} → length file ≡ 200 + 16 * n
-    → r ≡ first_marker (length (take (length file - 152) (drop 152 file)) / 16) (take (length file - 152) (drop 152 file)) → r ≡ first_marker (n + 3) (drop 152 file)
+pub marker_from : (file : List ℕ) (n : ℕ) {r : Option ℕ} → length file ≡ 200 + 16 * n
+    → r ≡ marked_at (length (take (length file - 152) (drop 152 file)) / 16) (take (length file - 152) (drop 152 file))
+    → option_eq eqb r (Some n) ≡ eqb (first_marker (n + 3) (drop 152 file)) n
 marker_from file n h e =
     let d = length-drop 152 file in
     let t = take_all (length file - 152) (drop 152 file) (omega arith) in
     let k : length (take (length file - 152) (drop 152 file)) / 16 ≡ n + 3 = ap (λ (l : List ℕ). length l / 16) t ∙ omega arith in
-    e ∙ ap₂ first_marker k t
+    ap (λ (r : Option ℕ). option_eq eqb r (Some n)) (e ∙ ap₂ marked_at k t) ∙ marked_number (n + 3) n (drop 152 file) (omega arith)
 
 -- the body's verdict is the report
 module _ (K L mac : List ℕ) (c blocks : ℕ) (body : List ℕ) where
   abbrev comes_to : Bool → Bool → Report
   comes_to a b = cond (not a) (refused 9 c blocks) (cond (not b) (refused 9 c blocks) (accepted v3_edition K L c blocks body))
 
-  abbrev verdict : Bool → Bool → Judged
-  verdict a b = cond a (cond b (Counts (headers_of body) (records_of body)) NotWellFormed) NotWellFormed
+  abbrev verdict : Bool → Bool → Result Counts Refusal
+  verdict a b = cond a (cond b (Ok (record { headers = headers_of body; records = records_of body })) (Err Body)) (Err Body)
 
-  verdict_is_no : verdict_of L mac body ≡ NotWellFormed → settled v3_edition K L mac c blocks body ≡ refused 9 c blocks
+  verdict_is_no : (x : Refusal) → verdict_of L mac body ≡ Err x → settled v3_edition K L mac c blocks body ≡ refused (refusal_number x) c blocks
   unfolding verdict_of settled body_tests v3
-  verdict_is_no e = go (is_well_formed body) (same (hmac_of L (covered_of body)) mac) e
+  verdict_is_no x e = go (is_well_formed body) (same (hmac_of L (covered_of body)) mac) e
     where
-      go : (a b : Bool) → verdict a b ≡ NotWellFormed → comes_to a b ≡ refused 9 c blocks
+      go : (a b : Bool) → verdict a b ≡ Err x → comes_to a b ≡ refused (refusal_number x) c blocks
       go true true e = absurd (let z : ◌≡◌ {A = ℕ} 0 1 = cc in omega arith)
-      go true false e = refl
-      go false b e = refl
+      go true false e = let f : Body ≡ x = cc in ap (λ (y : Refusal). refused (refusal_number y) c blocks) f
+      go false b e = let f : Body ≡ x = cc in ap (λ (y : Refusal). refused (refusal_number y) c blocks) f
 
-  verdict_is_yes : (h n : ℕ) → verdict_of L mac body ≡ Counts h n
-      → (settled v3_edition K L mac c blocks body ≡ accepted v3_edition K L c blocks body) × (h ≡ headers_of body) × (n ≡ records_of body)
+  verdict_is_yes : (n : Counts) → verdict_of L mac body ≡ Ok n
+      → (settled v3_edition K L mac c blocks body ≡ accepted v3_edition K L c blocks body) × (n.headers ≡ headers_of body) × (n.records ≡ records_of body)
   unfolding verdict_of settled body_tests v3
-  verdict_is_yes h n e = go (is_well_formed body) (same (hmac_of L (covered_of body)) mac) e
+  verdict_is_yes n e = go (is_well_formed body) (same (hmac_of L (covered_of body)) mac) e
     where
-      go : (a b : Bool) → verdict a b ≡ Counts h n → (comes_to a b ≡ accepted v3_edition K L c blocks body) × (h ≡ headers_of body) × (n ≡ records_of body)
+      go : (a b : Bool) → verdict a b ≡ Ok n → (comes_to a b ≡ accepted v3_edition K L c blocks body) × (n.headers ≡ headers_of body) × (n.records ≡ records_of body)
       go true true e = (refl, cc, cc)
       go true false e = absurd (let z : ◌≡◌ {A = ℕ} 0 1 = cc in omega arith)
       go false b e = absurd (let z : ◌≡◌ {A = ℕ} 0 1 = cc in omega arith)
@@ -156,23 +158,24 @@ module _ (K L mac : List ℕ) (c blocks : ℕ) (body : List ℕ) where
       go false b = (omega arith, refl, refl)
 
 -- what `settle` answers: of any memory, keys and counts
-module _ (keys : Keys) (mac : List ℕ) (c : ℕ) (body : List ℕ) {j : Judged} (v : j ≡ verdict_of keys.l mac body) where
-  pub settled_no : j ≡ NotWellFormed → {after : List ℕ} {r : Reading} → reported r [] ≡ refused 9 c keys.count → after ≡ zeros (length body)
-      → Settles keys mac c body after r
-  settled_no f a z = record { reports = refused_reports 9 c keys.count (verdict_is_no keys.k keys.l mac c keys.count body (sym v ∙ f)) a z }
+module _ (d : Decrypted) (mac : List ℕ) (c : ℕ) (body : List ℕ) {j : Result Counts Refusal} (v : j ≡ verdict_of d.keys.l mac body) where
+  pub settled_no : (x : Refusal) → j ≡ Err x → {after : List ℕ} {r : Reading} → reported r [] ≡ refused (refusal_number x) c d.blocks → after ≡ zeros (length body)
+      → Settles d mac c body after r
+  settled_no x f a z =
+      record { reports = refused_reports (refusal_number x) c d.blocks (verdict_is_no d.keys.k d.keys.l mac c d.blocks body x (sym v ∙ f)) a z }
 
-  pub settled_yes : (h q : ℕ) → j ≡ Counts h q
-      → Settles keys mac c body body (record { outcome = Accepted h q; k = keys.k; l = keys.l; compressions = c; blocks = keys.count })
+  pub settled_yes : (q : Counts) → j ≡ Ok q
+      → Settles d mac c body body (record { outcome = Ok (record { keys = d.keys; counts = q }); compressions = c; blocks = d.blocks })
   unfolding reported accepted v3 workspace_of
-  settled_yes h q f =
-      let y = verdict_is_yes keys.k keys.l mac c keys.count body h q (sym v ∙ f) in
-      let e : (settled v3_edition keys.k keys.l mac c keys.count body).body ≡ body = ap (λ (r : Report). r.body) y.0 in
-      let r : Reading = record { outcome = Accepted h q; k = keys.k; l = keys.l; compressions = c; blocks = keys.count } in
+  settled_yes q f =
+      let y = verdict_is_yes d.keys.k d.keys.l mac c d.blocks body q (sym v ∙ f) in
+      let e : (settled v3_edition d.keys.k d.keys.l mac c d.blocks body).body ≡ body = ap (λ (r : Report). r.body) y.0 in
+      let r : Reading = record { outcome = Ok (record { keys = d.keys; counts = q }); compressions = c; blocks = d.blocks } in
       let z : length body - length body ≡ 0 = omega arith in
       record {
         reports = record {
           answer = ap (reported r) e
-              ∙ (λ i. record { number = 0; key_k = keys.k; key_l = keys.l; headers = y.1 i; records = y.2 i; compressions = c; blocks = keys.count; body = body })
+              ∙ (λ i. record { number = 0; key_k = d.keys.k; key_l = d.keys.l; headers = y.1 i; records = y.2 i; compressions = c; blocks = d.blocks; body = body })
               ∙ sym y.0;
           memory = sym (append-nil body) ∙ ap (λ (n : ℕ). body ++ zeros n) (sym z) ∙ ap (λ (b : List ℕ). b ++ zeros (length body - length b)) (sym e);
         };
@@ -187,22 +190,21 @@ longer t n m h k =
     ∙ ap (λ (z : List ℕ). t.body ++ z) (replicate-append-replicate (n - length t.body) (m - n) 0 ∙ ap zeros e)
 
 -- decrypted into the front of a workspace of zeros, and settled there
-pub unlocked : (file P' w body mac : List ℕ) (c : ℕ) {keys : Keys} {before after rest : List ℕ} {r : Reading} → Ready file before → Decrypts file P' w keys
-    → length w ≡ length file - 200 → mac ≡ (split file).mac → body ≡ w → Settles keys mac c body after r → rest ≡ drop (length w) before
+pub unlocked : (file P' w mac : List ℕ) (c : ℕ) {d : Decrypted} {before after rest : List ℕ} {r : Reading} → Ready file before → Decrypts file P' w d
+    → length w ≡ length file - 200 → mac ≡ (split file).mac → Settles d mac c w after r → rest ≡ drop (length w) before
     → Reports (settled_under file P' c) before (after ++ rest) r
-unlocked file P' w body mac c {keys} {before} {after} {rest} {r} ready d long m b s₀ e =
-    let s : Settles keys mac c w after r = subst (λ (x : List ℕ). Settles keys mac c x after r) b s₀ in
-    let t = settled v3_edition keys.k keys.l mac c keys.count w in
+unlocked file P' w mac c {d} {before} {after} {rest} {r} ready is_decrypted long m s e =
+    let t = settled v3_edition d.keys.k d.keys.l mac c d.blocks w in
     let same_report : t ≡ settled_under file P' c =
-    ap₂ (λ (K L : List ℕ). settled v3_edition K L mac c keys.count w) d.k d.l
-    ∙ ap₂ (λ (x : List ℕ) (n : ℕ). settled v3_edition (key_k v3 (split file) P') (key_l v3 (split file) P') x c n w) m d.count
-    ∙ ap (settled v3_edition (key_k v3 (split file) P') (key_l v3 (split file) P') (split file).mac c (state_under file P').count) d.text in
+    ap₂ (λ (K L : List ℕ). settled v3_edition K L mac c d.blocks w) is_decrypted.k is_decrypted.l
+    ∙ ap₂ (λ (x : List ℕ) (n : ℕ). settled v3_edition (key_k v3 (split file) P') (key_l v3 (split file) P') x c n w) m is_decrypted.count
+    ∙ ap (settled v3_edition (key_k v3 (split file) P') (key_l v3 (split file) P') (split file).mac c (state_under file P').count) is_decrypted.text in
     let holds : length w ≤ length before = omega (arith, ready.holds) in
     let zs : rest ≡ zeros (length before - length w) = e ∙ ap (drop (length w)) ready.blank ∙ drop_same 0 (length w) (length before) holds in
     reports_as (sym same_report) (record {
       answer = s.reports.answer;
       memory = ap₂ (λ (x y : List ℕ). x ++ y) s.reports.memory zs
-          ∙ longer t (length w) (length before) (settled_parts keys.k keys.l mac c keys.count w).0 holds;
+          ∙ longer t (length w) (length before) (settled_parts d.keys.k d.keys.l mac c d.blocks w).0 holds;
     })
 
 -- the stretcher's states are the edition's
@@ -213,6 +215,16 @@ stretched_is pass salt n e f g =
     let h = e ∙ ap (λ (m : ℕ). stretched_of m (start_of pass salt)) f in
     let k = g ∙ ap step_of h in
     (ap key_of h, ap key_of k, ap (λ (x : Stretcher). x.count) k)
+
+-- of a file, whose salt is copied
+pub opened_states : (file pass : List ℕ) {salt : List ℕ} {s₀ s c : Stretcher} {i : ℕ} → length file ≡ 200 + 16 * blocks_in file
+    → salt ≡ copied (zeros 32) (take 32 (drop 4 file)) → s₀ ≡ start_of pass salt → i ≡ iter_in file → s ≡ stretched_of i s₀ → c ≡ step_of s
+    → let t = stretched_v3 pass (salt_in file) (iter_in file) in (key_of s ≡ t.key) × (key_of c ≡ t.check) × (c.count ≡ t.count)
+unfolding split
+opened_states file pass {i = i} h a b e f g =
+    let d = length-drop 4 file in
+    let is_salt = a ∙ copied_whole 32 (take 32 (drop 4 file)) (length-take-le 32 (drop 4 file) (omega arith)) in
+    stretched_is pass (take 32 (drop 4 file)) (iter_in file) (f ∙ ap (stretched_of i) (b ∙ ap (start_of pass) is_salt)) e g
 
 -- the check passed, or not
 module _ (file : List ℕ) (s : Stretched) where
@@ -225,10 +237,10 @@ module _ (file : List ℕ) (s : Stretched) where
   checked_failed e = rw e
 
 -- what the early tests leave for the opening
-pub ready : (file pass before zeroed : List ℕ) (ceiling : ℕ) {t : Early} → early_number t ≡ early_reading file pass ceiling (length before) → t ≡ Early.Passed
+pub ready : (file pass before zeroed : List ℕ) (ceiling : ℕ) {t : Result Unit Refusal} → answer_number t ≡ early_reading file pass ceiling (length before) → t ≡ Ok tt
     → zeroed ≡ zeros (length before) → Ready file zeroed
 unfolding early_tests
-ready file pass before zeroed ceiling e f z = go (decide (λ (n : ℕ). n) 0 tests) (sym (ap early_number f) ∙ e)
+ready file pass before zeroed ceiling e f z = go (decide (λ (n : ℕ). n) 0 tests) (sym (ap answer_number f) ∙ e)
   where
     tests : List Test
     tests = early_tests v3 (split file) (blocks_in file) file pass ceiling (length before)

@@ -1,11 +1,10 @@
 -- The answers of reading and writing by document 01's numbers, and their values.
-use Rattle.std.specs.Prelude.{ℕ, List}
+use Rattle.std.specs.Prelude.{ℕ, List, Result, Ok, Err}
+use Rattle.words.specs.Slices.{zeros}
 use Rattle.file.specs.Reading.{Report}
 use Rattle.safe.specs.declared.Refusal.{Refusal}
 use Rattle.safe.specs.declared.Refusal.TheVariants.{Length, Passphrase, Room, Tag, Floor, Ceiling, Marker, Check, Body, Block}
-use Rattle.safe.specs.declared.Outcome.{Outcome}
-use Rattle.safe.specs.declared.Early.{Early}
-use Rattle.safe.specs.declared.Written.{Written}
+use Rattle.safe.specs.declared.Opened.{Opened}
 use Rattle.safe.specs.declared.Reading.{Reading}
 
 abbrev pub refusal_number : Refusal → ℕ
@@ -20,34 +19,35 @@ refusal_number Check = 8
 refusal_number Body = 9
 refusal_number Block = 10
 
--- 0 where nothing is refused; the counts of header fields and records, zero where refused
-abbrev pub outcome_number : Outcome → ℕ
-outcome_number (Outcome.Accepted h r) = 0
-outcome_number (Outcome.Refused x) = refusal_number x
+-- 0 where nothing is refused
+abbrev pub answer_number : {A : Type 0} → Result A Refusal → ℕ
+answer_number (Ok a) = 0
+answer_number (Err x) = refusal_number x
 
-abbrev pub header_count : Outcome → ℕ
-header_count (Outcome.Accepted h r) = h
-header_count (Outcome.Refused x) = 0
+-- the keys and the counts of header fields and records; zero where refused, since then there are none
+abbrev pub k_given : Result Opened Refusal → List ℕ
+k_given (Ok o) = o.keys.k
+k_given (Err x) = zeros 32
 
-abbrev pub record_count : Outcome → ℕ
-record_count (Outcome.Accepted h r) = r
-record_count (Outcome.Refused x) = 0
+abbrev pub l_given : Result Opened Refusal → List ℕ
+l_given (Ok o) = o.keys.l
+l_given (Err x) = zeros 32
 
-abbrev pub early_number : Early → ℕ
-early_number Early.Passed = 0
-early_number (Early.Refused x) = refusal_number x
+abbrev pub header_count : Result Opened Refusal → ℕ
+header_count (Ok o) = o.counts.headers
+header_count (Err x) = 0
 
-abbrev pub written_number : Written → ℕ
-written_number Written.Done = 0
-written_number (Written.Refused x) = refusal_number x
+abbrev pub record_count : Result Opened Refusal → ℕ
+record_count (Ok o) = o.counts.records
+record_count (Err x) = 0
 
 -- a reading's answer and the body that the workspace then holds, as a report
 unfoldable pub reported : Reading → List ℕ → Report
 reported r body =
     record {
-      number = outcome_number r.outcome;
-      key_k = r.k;
-      key_l = r.l;
+      number = answer_number r.outcome;
+      key_k = k_given r.outcome;
+      key_l = l_given r.outcome;
       headers = header_count r.outcome;
       records = record_count r.outcome;
       compressions = r.compressions;

@@ -1,5 +1,5 @@
 -- The contracts of `read` and `write`, and the words in which the demands speak of a file.
-use Rattle.std.specs.Prelude.{ℕ, ◌+◌, ◌-◌, ◌/◌, ◌≤◌, ◌≡◌, List, ◌++◌, length}
+use Rattle.std.specs.Prelude.{ℕ, ◌+◌, ◌-◌, ◌/◌, ◌≤◌, ◌≡◌, Result, List, ◌++◌, length}
 use Rattle.words.specs.Numbers.{Bytes, number_low}
 use Rattle.words.specs.Slices.{zeros}
 use Rattle.sha256.specs.Sha256.{sha256}
@@ -9,9 +9,9 @@ use Rattle.file.specs.Layout.{split}
 use Rattle.file.specs.Reading.{Report, workspace_of, key_k, key_l, body_of, reading_of}
 use Rattle.file.specs.Writing.{writing_of, Values}
 use Rattle.safe.specs.V3.{v3, v3_edition}
-use Rattle.safe.specs.Answers.{outcome_number, written_number, reported}
+use Rattle.safe.specs.Answers.{answer_number, k_given, l_given, reported}
+use Rattle.safe.specs.declared.Refusal.{Refusal}
 use Rattle.safe.specs.declared.Reading.{Reading}
-use Rattle.safe.specs.declared.Written.{Written}
 
 -- What stands in a file (document 01, "The file, by offset"), and n, the blocks of its body.
 abbrev pub salt_in : List ℕ → List ℕ
@@ -54,7 +54,7 @@ last_state passphrase file = body_of v3 (split file) (stretched_in passphrase fi
 
 -- the number of an answer, 0 where it is an acceptance; and the numbers 1 to 7, which come before any work
 abbrev pub number_of : Reading → ℕ
-number_of r = outcome_number r.outcome
+number_of r = answer_number r.outcome
 
 abbrev pub OneToSeven : ℕ → Type 0
 OneToSeven n = (1 ≤ n) × (n ≤ 7)
@@ -75,13 +75,13 @@ pub record Reads (file passphrase : List ℕ) (ceiling : ℕ) (before after : Li
 -- r is an acceptance with keys K and L, and the workspace holds the body and zeros after it
 pub record Accepts (file before after : List ℕ) (r : Reading) (K L body : List ℕ) : Type 0 where
   pub number : number_of r ≡ 0
-  pub gives_k : r.k ≡ K
-  pub gives_l : r.l ≡ L
+  pub gives_k : k_given r.outcome ≡ K
+  pub gives_l : l_given r.outcome ≡ L
   pub long : length file ≡ 200 + length body
   pub workspace : after ≡ body ++ zeros (length before - length body)
 
 -- The contract of `write`: given these values and an output, it answered r and left the output as `after`.
-pub record Writes (passphrase salt : List ℕ) (iter : ℕ) (K L iv body before after : List ℕ) (r : Written) : Type 0 where
+pub record Writes (passphrase salt : List ℕ) (iter : ℕ) (K L iv body before after : List ℕ) (r : Result Unit Refusal) : Type 0 where
   pub values : Values salt iter K L iv body
-  pub number : written_number r ≡ (writing_of v3_edition passphrase salt iter K L iv body (length before)).number
+  pub number : answer_number r ≡ (writing_of v3_edition passphrase salt iter K L iv body (length before)).number
   pub output : after ≡ (writing_of v3_edition passphrase salt iter K L iv body (length before)).output

@@ -1,11 +1,10 @@
 -- What the steps of a reading are handed and hand on, each by the definition's state at that point.
-use Rattle.std.specs.Prelude.{ℕ, ◌+◌, ◌-◌, ◌*◌, ◌≤◌, ◌<◌, ◌^◌, ◌≡◌, cond, List, length, take, drop}
+use Rattle.std.specs.Prelude.{ℕ, ◌+◌, ◌-◌, ◌*◌, ◌≤◌, ◌<◌, ◌^◌, ◌≡◌, cond, Result, Ok, Err, List, length, take, drop}
 use Rattle.words.specs.Numbers.{Bytes}
 use Rattle.words.specs.Slices.{zeros, same}
 use Rattle.sha256.specs.Hmac.{hmac_of}
 use Rattle.body.specs.Decision.{is_well_formed, covered_of, headers_of, records_of}
-use Rattle.body.specs.declared.Judged.{Judged}
-use Rattle.body.specs.declared.Judged.TheVariants.{Counts, NotWellFormed}
+use Rattle.body.specs.declared.Counts.{Counts}
 use Rattle.chain.specs.Decryption.{Decryption}
 use Rattle.file.specs.Layout.{split}
 use Rattle.file.specs.Refusals.{deciding}
@@ -14,7 +13,9 @@ use Rattle.file.specs.Writing.{early_write_tests}
 use Rattle.safe.specs.V3.{v3, v3_edition, stretched_v3}
 use Rattle.safe.specs.Calls.{salt_in, iter_in, blocks_in, Reports}
 use Rattle.safe.specs.declared.Reading.{Reading}
-use Rattle.safe.specs.declared.decrypt.Keys.{Keys}
+use Rattle.safe.specs.declared.Refusal.{Refusal}
+use Rattle.safe.specs.declared.Refusal.TheVariants.{Body}
+use Rattle.safe.specs.declared.decrypt.Decrypted.{Decrypted}
 
 -- the number of the first early test that fails, 0 where none does
 abbrev pub early_reading : (file passphrase : List ℕ) (ceiling room : ℕ) → ℕ
@@ -37,32 +38,33 @@ pub record Ready (file workspace : List ℕ) : Type 0 where
   pub blank : workspace ≡ zeros (length workspace)
 
 -- the two keys decrypted, and the count of that state
-pub record Unwrapped (key keys : List ℕ) (r : Keys) : Type 0 where
-  pub k : r.k ≡ take 32 (keys_decrypted v3 key keys).done
-  pub l : r.l ≡ drop 32 (keys_decrypted v3 key keys).done
-  pub count : r.count ≡ (keys_decrypted v3 key keys).count
+pub record Unwrapped (key keys : List ℕ) (r : Decrypted) : Type 0 where
+  pub k : r.keys.k ≡ take 32 (keys_decrypted v3 key keys).done
+  pub l : r.keys.l ≡ drop 32 (keys_decrypted v3 key keys).done
+  pub count : r.blocks ≡ (keys_decrypted v3 key keys).count
 
 -- the state that the last block of the body leaves
 abbrev pub state_under : (file P' : List ℕ) → Decryption
 state_under file P' = body_of v3 (split file) P' (blocks_in file)
 
 -- decrypted under P': the keys, the memory holds that state's text, and the count is that state's own
-pub record Decrypts (file P' memory : List ℕ) (r : Keys) : Type 0 where
+pub record Decrypts (file P' memory : List ℕ) (r : Decrypted) : Type 0 where
   pub bytes : Bytes file
   pub whole : length file ≡ 200 + 16 * blocks_in file
-  pub k : r.k ≡ key_k v3 (split file) P'
-  pub l : r.l ≡ key_l v3 (split file) P'
+  pub k : r.keys.k ≡ key_k v3 (split file) P'
+  pub l : r.keys.l ≡ key_l v3 (split file) P'
   pub text : memory ≡ (state_under file P').done
-  pub count : r.count ≡ (state_under file P').count
+  pub count : r.blocks ≡ (state_under file P').count
 
 -- the counts of a body that is well formed and whose HMAC under L is mac, or 9
-unfoldable pub verdict_of : (L mac body : List ℕ) → Judged
+unfoldable pub verdict_of : (L mac body : List ℕ) → Result Counts Refusal
 verdict_of L mac body =
-    cond (is_well_formed body) (cond (same (hmac_of L (covered_of body)) mac) (Counts (headers_of body) (records_of body)) NotWellFormed) NotWellFormed
+    cond (is_well_formed body)
+    (cond (same (hmac_of L (covered_of body)) mac) (Ok (record { headers = headers_of body; records = records_of body })) (Err Body)) (Err Body)
 
 -- settled: of a memory, keys and counts, whatever they are, the report that they make
-pub record Settles (keys : Keys) (mac : List ℕ) (compressions : ℕ) (before after : List ℕ) (r : Reading) : Type 0 where
-  pub reports : Reports (settled v3_edition keys.k keys.l mac compressions keys.count before) before after r
+pub record Settles (d : Decrypted) (mac : List ℕ) (compressions : ℕ) (before after : List ℕ) (r : Reading) : Type 0 where
+  pub reports : Reports (settled v3_edition d.keys.k d.keys.l mac compressions d.blocks before) before after r
 
 -- the report of a file's body under P'; and of a file that has passed the early tests
 abbrev pub settled_under : (file P' : List ℕ) (compressions : ℕ) → Report

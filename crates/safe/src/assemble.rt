@@ -3,14 +3,24 @@ ghost use Rattle.std.specs.Prelude.{◌≡◌, ◌++◌, ◌+◌, ◌≤◌, len
 ghost use Rattle.words.specs.Slices.{zeros};
 ghost use Rattle.file.specs.Description.{wrapped};
 ghost use Rattle.safe.specs.V3.{v3};
-ghost use Rattle.safe.specs.Answers.{written_number};
+ghost use Rattle.safe.specs.Answers.{answer_number};
 ghost use Rattle.safe.specs.Laying.{Headed, Blank, Laid};
 
-use super::{Refusal, Written};
+use super::Refusal;
 use file::{first_marker, marker};
 use stretch::Stretcher;
-use words::numbers::byte;
-use words::slices::{copy, zero};
+use words::slices::zero;
+
+// What a file is written under.
+#[derive(Clone, Copy)]
+pub struct Values<'a> {
+    pub passphrase: &'a [u8],
+    pub salt: &'a [u8; 32],
+    pub iter: u32,
+    pub k: &'a [u8; 32],
+    pub l: &'a [u8; 32],
+    pub iv: &'a [u8; 16],
+}
 
 // `part` into `output` from `at` on.
 fn lay(output: &mut [u8], at: usize, part: &[u8])
@@ -18,8 +28,7 @@ fn lay(output: &mut [u8], at: usize, part: &[u8])
     ensures { output.new
         ≡ take at output.old ++ (part.now ++ drop (at + length part.now) output.old) }
 {
-    let e = at + part.len();
-    copy(&mut output[at..e], part);
+    output[at..at + part.len()].copy_from_slice(part);
 }
 
 // The two keys, side by side under P'.
@@ -34,58 +43,40 @@ fn wrap(key: &[u8; 32], k: &[u8; 32], l: &[u8; 32]) -> [u8; 64]
 }
 
 // Everything before the body: 152 bytes.
-fn head(
-    passphrase: &[u8],
-    salt: &[u8; 32],
-    iter: u32,
-    k: &[u8; 32],
-    l: &[u8; 32],
-    iv: &[u8; 16],
-    output: &mut [u8],
-)
+fn head(v: &Values, output: &mut [u8])
     requires { (output.old ≡ zeros (length output.old)) × (152 ≤ length output.old) }
-    ensures { Headed passphrase.now salt.now iter k.now l.now iv.now
-        (length output.old) output.new }
+    ensures { Headed v.now (length output.old) output.new }
 {
+    let Values {
+        passphrase,
+        salt,
+        iter,
+        k,
+        l,
+        iv,
+    } = *v;
     let s = Stretcher::start(passphrase, salt).stretched(iter);
-    let c = s.step();
-    let key = s.key();
     lay(output, 0, b"PWS3");
     lay(output, 4, salt);
-    let i = [byte(iter, 0), byte(iter, 1), byte(iter, 2), byte(iter, 3)];
-    lay(output, 36, &i);
-    let check = c.key();
-    lay(output, 40, &check);
-    let keys = wrap(&key, k, l);
-    lay(output, 72, &keys);
+    lay(output, 36, &iter.to_le_bytes());
+    lay(output, 40, &s.step().key());
+    lay(output, 72, &wrap(&s.key(), k, l));
     lay(output, 136, iv);
 }
 
-pub fn file(
-    passphrase: &[u8],
-    salt: &[u8; 32],
-    iter: u32,
-    k: &[u8; 32],
-    l: &[u8; 32],
-    iv: &[u8; 16],
-    body: &[u8],
-    output: &mut [u8],
-) -> Written
+pub fn file(v: &Values, body: &[u8], output: &mut [u8]) -> Result<(), Refusal>
     requires { Blank body.now output.old }
-    ensures { Laid passphrase.now salt.now iter k.now l.now iv.now body.now
-        (length output.old) (written_number result) output.new }
+    ensures { Laid v.now body.now (length output.old) (answer_number result) output.new }
 {
-    head(passphrase, salt, iter, k, l, iv, output);
-    let n = body.len();
-    let e = 152 + n;
+    head(v, output);
+    let Values { k, l, iv, .. } = *v;
+    let e = 152 + body.len();
     chain::cbc_encrypt(k, iv, body, &mut output[152..e]);
-    if first_marker(&output[152..e]) != n / 16 {
+    if first_marker(&output[152..e]).is_some() {
         zero(output);
-        return Written::Refused(Refusal::Block);
+        return Err(Refusal::Block);
     }
-    let m = marker();
-    lay(output, e, &m);
-    let mac = mac::of_body(l, body);
-    lay(output, e + 16, &mac);
-    Written::Done
+    lay(output, e, &marker());
+    lay(output, e + 16, &mac::of_body(l, body));
+    Ok(())
 }

@@ -7,77 +7,84 @@ mod open;
 mod refusals;
 mod settle;
 
-ghost use Rattle.std.specs.Prelude.{◌≡◌, true};
-ghost use Rattle.words.specs.Numbers.{Bytes};
+ghost use Rattle.std.specs.Prelude.{◌≡◌, []};
+ghost use Rattle.file.specs.Reading.{refused as refused_of};
+ghost use Rattle.safe.specs.Answers.{refusal_number, reported};
 ghost use Rattle.safe.specs.Calls.{Reads, Writes};
 
-// Why a file is not read, or not written: document 01's numbers 1 to 10, in their order.
-#[derive(Clone, Copy)]
+use assemble::Values;
+use body::Counts;
+use words::slices::zero;
+
+// Why a file is not read, or not written, by document 01's numbers.
+#[derive(Clone, Copy, Debug, PartialEq, Eq)]
 pub enum Refusal {
-    Length,
-    Passphrase,
-    Room,
-    Tag,
-    Floor,
-    Ceiling,
-    Marker,
-    Check,
-    Body,
-    Block,
+    Length = 1,
+    Passphrase = 2,
+    Room = 3,
+    Tag = 4,
+    Floor = 5,
+    Ceiling = 6,
+    Marker = 7,
+    Check = 8,
+    Body = 9,
+    Block = 10,
 }
 
-// How many header fields and records an accepted file has, or the refusal.
-#[derive(Clone, Copy)]
-pub enum Outcome {
-    Accepted(usize, usize),
-    Refused(Refusal),
+impl From<Refusal> for u32 {
+    ghost from_gives = { λ x n. n ≡ refusal_number x };
+
+    fn from(x: Refusal) -> u32 {
+        x as u32
+    }
 }
 
-// The keys, zero where the file is refused, and the two counts of work.
 #[derive(Drop)]
-pub struct Reading {
-    pub outcome: Outcome,
+pub struct Keys {
     pub k: [u8; 32],
     pub l: [u8; 32],
+}
+
+// What an accepted file gives beside its body: its keys, and how many header fields and records the body has.
+#[derive(Drop)]
+pub struct Opened {
+    pub keys: Keys,
+    pub counts: Counts,
+}
+
+// The outcome, and the two counts of work.
+#[derive(Drop)]
+pub struct Reading {
+    pub outcome: Result<Opened, Refusal>,
     pub compressions: u64,
     pub blocks: u64,
 }
 
-// What the tests before any work come to.
-#[derive(Clone, Copy)]
-enum Early {
-    Passed,
-    Refused(Refusal),
+#[tactic(auto, unfolding(crate::specs::Answers::reported, file::specs::Reading::refused))]
+fn refused(x: Refusal, compressions: u64, blocks: u64) -> Reading
+    ensures { reported result [] ≡ refused_of (refusal_number x) compressions blocks }
+{
+    Reading {
+        outcome: Err(x),
+        compressions,
+        blocks,
+    }
 }
 
-#[derive(Clone, Copy)]
-pub enum Written {
-    Done,
-    Refused(Refusal),
-}
-
-// A file read whole. Accepted: the keys, the counts of header fields and records, and the workspace holds the body and zeros after it.
-// Refused: keys and these counts zero, and every byte of the workspace zero.
+// A file read whole. Accepted: the workspace holds the body and zeros after it. Refused: every byte of the workspace is zero.
 pub fn read(file: &[u8], passphrase: &[u8], ceiling: u32, workspace: &mut [u8]) -> Reading
     ensures { Reads file.now passphrase.now ceiling workspace.old workspace.new result }
 {
     let room = workspace.len();
-    words::slices::zero(workspace);
-    let t = refusals::reading(file, passphrase, ceiling, room);
-    match t {
-        Early::Refused(x) => settle::refused(x, 0, 0),
-        Early::Passed => open::open(file, passphrase, workspace),
+    zero(workspace);
+    match refusals::reading(file, passphrase, ceiling, room) {
+        Err(x) => refused(x, 0, 0),
+        Ok(()) => open::open(file, passphrase, workspace),
     }
 }
 
-// Always true. The call brings into the proof what the type of an array says of it: how many bytes it holds, and that they are bytes.
-fn known(s: &[u8]) -> bool
-    ensures { (result ≡ true) × Bytes s.now }
-{
-    words::slices::same(s, s)
-}
-
 // A body written as a file under values that the caller supplies. Done: the output holds the file and zeros after it. Refused: all zero.
+// The values come one by one: of arrays behind a struct's references no proof knows that they are bytes, which `Writes` says.
 pub fn write(
     passphrase: &[u8],
     salt: &[u8; 32],
@@ -87,19 +94,20 @@ pub fn write(
     iv: &[u8; 16],
     body: &[u8],
     output: &mut [u8],
-) -> Written
+) -> Result<(), Refusal>
     ensures { Writes passphrase.now salt.now iter k.now l.now iv.now body.now
         output.old output.new result }
 {
-    known(salt);
-    known(k);
-    known(l);
-    known(iv);
     let room = output.len();
-    words::slices::zero(output);
-    let t = refusals::writing(passphrase, iter, body, room);
-    match t {
-        Early::Refused(x) => Written::Refused(x),
-        Early::Passed => assemble::file(passphrase, salt, iter, k, l, iv, body, output),
-    }
+    zero(output);
+    refusals::writing(passphrase, iter, body, room)?;
+    let v = Values {
+        passphrase,
+        salt,
+        iter,
+        k,
+        l,
+        iv,
+    };
+    assemble::file(&v, body, output)
 }

@@ -1,6 +1,5 @@
 pub mod Bitwise
-pub mod Rounds
-pub mod Words
+pub mod Schedule
 pub mod Digest
 pub mod Pieces
 pub mod Padding

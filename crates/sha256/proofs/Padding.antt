@@ -1,26 +1,18 @@
 -- The padding, taken in as two more pieces, ends the hash: the running state after the padded message is its hash value.
 use Rattle.std.proofs.Common.{◌≡◌, ℕ, suc, ◌+◌, ◌-◌, ◌*◌, ◌%◌, ◌^◌, ◌≤◌, List, [], ◌∷◌, ◌++◌, length, take, set, replicate, sym, ap, ◌∙◌, ap₂, append_assoc, arith, length-take-le, take_at}
 use lib.ListN.{length-replicate, replicate-append-replicate}
-use Rattle.words.specs.Numbers.{byte_of, bytes_high}
-use Rattle.words.proofs.NumberLaws.{eight_high, bytes_mod_high}
+use Rattle.words.specs.Numbers.{bytes_high}
+use Rattle.words.proofs.NumberLaws.{bytes_mod_high}
 use Rattle.sha256.specs.Sha256.{zeros_after, padding, hash_of}
-use Rattle.sha256.specs.declared.Running.{Running}
+use Rattle.sha256.specs.declared.hash.Running.{Running}
 use Rattle.sha256.specs.Running.{running_of, Takes}
 use Rattle.sha256.proofs.Pieces.{len_is}
 
 -- the eight bytes of the number of bits
-pub bits_are : (n : ℕ) {a b c d e f g h x : ℕ} → x ≡ n * 8 % 2 ^ 64
-    → a ≡ byte_of 7 x → b ≡ byte_of 6 x → c ≡ byte_of 5 x → d ≡ byte_of 4 x
-    → e ≡ byte_of 3 x → f ≡ byte_of 2 x → g ≡ byte_of 1 x → h ≡ byte_of 0 x
-    → a ∷ b ∷ c ∷ d ∷ e ∷ f ∷ g ∷ h ∷ [] ≡ bytes_high 8 (8 * n)
-bits_are n {x = x} w pa pb pc pd pe pf pg ph =
-    let t : n * 8 ≡ 8 * n = omega arith in
-    cc (eight_high x) ∙ ap (bytes_high 8) w ∙ bytes_mod_high 8 (n * 8) ∙ ap (bytes_high 8) t
-
-length_bits : (n l : ℕ) → n ≡ l % 2 ^ 64 → bytes_high 8 (8 * n) ≡ bytes_high 8 (8 * l)
+length_bits : (n l : ℕ) → n ≡ l % 2 ^ 64 → bytes_high 8 (n * 8 % 2 ^ 64) ≡ bytes_high 8 (8 * l)
 length_bits n l h =
-    let e : 8 * n % 2 ^ 64 ≡ 8 * l % 2 ^ 64 = omega arith in
-    sym (bytes_mod_high 8 (8 * n)) ∙ ap (bytes_high 8) e ∙ bytes_mod_high 8 (8 * l)
+    let e : n * 8 % 2 ^ 64 ≡ 8 * l % 2 ^ 64 = omega arith in
+    ap (bytes_high 8) e ∙ bytes_mod_high 8 (8 * l)
 
 -- a one bit, and z zeros
 abbrev mark : ℕ → List ℕ
@@ -37,7 +29,7 @@ marked z h =
 pub marks : (n : ℕ) → 1 + zeros_after n ≡ length (mark (zeros_after n))
 marks n = sym (length-take-le (1 + zeros_after n) (set (replicate 64 0) 0 128) (omega arith))
 
-pub ended : (m l : List ℕ) {st a b : Running} → st ≡ running_of m → l ≡ bytes_high 8 (8 * st.len) → Takes st (mark (zeros_after st.len)) a → Takes a l b → b.v ≡ hash_of m
+pub ended : (m l : List ℕ) {st a b : Running} → st ≡ running_of m → l ≡ bytes_high 8 (st.len * 8 % 2 ^ 64) → Takes st (mark (zeros_after st.len)) a → Takes a l b → b.v ≡ hash_of m
 unfolding hash_of running_of padding
 ended m l {st} {a} {b} e k f g =
     let n : st.len ≡ length m % 2 ^ 64 = len_is m [] e in

@@ -1,11 +1,11 @@
 -- The three ways that a piece is taken into a running hash: it leaves the block open, it ends it, or it follows whole blocks. Each by what the hash value after so many blocks does not look at.
-use Rattle.std.proofs.Common.{◌≡◌, ℕ, zero, suc, ◌+◌, ◌-◌, ◌*◌, ◌/◌, ◌%◌, ◌^◌, ◌<◌, ◌≤◌, List, [], ◌∷◌, ◌++◌, length, drop, replicate, sym, refl, ap, ◌∙◌, ap₂, add-zero, add-one, arith, length-append, length-drop, drop_of_length-le}
-use lib.ListN.{length-replicate, get_or-append}
-use lib.Seq.{paste, take-append_seam, take-length, drop-append-add, drop-append-le}
+use Rattle.std.proofs.Common.{◌≡◌, ℕ, zero, suc, ◌+◌, ◌-◌, ◌*◌, ◌/◌, ◌%◌, ◌^◌, ◌<◌, ◌≤◌, List, [], ◌∷◌, ◌++◌, length, take, drop, replicate, sym, refl, ap, ◌∙◌, ap₂, append_assoc, add-zero, add-one, arith, length-append, length-drop, drop_of_length-le, length-take-le, take-append-drop, take_all, drop_at}
+use lib.ListN.{get_or-append}
+use lib.Seq.{take-append_seam, drop-append-add, drop-append-le}
+use Rattle.words.specs.Slices.{zeros, copied}
 use Rattle.words.proofs.ByteLaws.{drop_same}
-use Rattle.sha256.specs.declared.Vars.{Vars}
 use Rattle.sha256.specs.Sha256.{word_of, words_of, compress_of, hash_value}
-use Rattle.sha256.specs.declared.Running.{Running}
+use Rattle.sha256.specs.declared.hash.Running.{Running}
 use Rattle.sha256.specs.Running.{left, tail_of, running_of, folds_of}
 
 -- ---- the words of a list are those of its front
@@ -40,38 +40,48 @@ next l n =
     let e : 64 * n ≡ n * 64 = omega arith in
     rw (add-one, e) refl
 
-beyond : (m d : List ℕ) (p n : ℕ) → length m ≡ p * 64 → hash_value (m ++ d) (p + n) ≡ folds_of (hash_value m p) d n
+beyond : (n : ℕ) (m d : List ℕ) (p : ℕ) → length m ≡ p * 64 → n * 64 ≤ length d → hash_value (m ++ d) (p + n) ≡ folds_of (hash_value m p) d n
 unfolding folds_of
-beyond m d p zero h = rw add-zero (front m d p (omega arith))
-beyond m d p (suc n) h =
-    let e : p + suc n ≡ p + n + 1 = omega arith in
-    let f : (p + n) * 64 ≡ length m + n * 64 = omega arith in
-    ap (λ (x : ℕ). hash_value (m ++ d) x) e ∙ next (m ++ d) (p + n)
-    ∙ ap₂ compress_of (beyond m d p n h) (ap (words_of 16) (ap (λ (x : ℕ). drop x (m ++ d)) f ∙ drop-append-add m d (n * 64)))
+beyond zero m d p h k = rw add-zero (front m d p (omega arith))
+beyond (suc n) m d p h k =
+    let b : List ℕ = take 64 d in
+    let l : length b ≡ 64 = length-take-le 64 d (omega arith) in
+    let lb : length (m ++ b) ≡ length m + length b = length-append m b in
+    let e : p + suc n ≡ p + 1 + n = omega arith in
+    let s : m ++ d ≡ (m ++ b) ++ drop 64 d = ap (λ (x : List ℕ). m ++ x) (sym (take-append-drop 64 d)) ∙ sym (append_assoc m b (drop 64 d)) in
+    let o : hash_value (m ++ b) (p + 1) ≡ compress_of (hash_value m p) (words_of 16 b) =
+    next (m ++ b) p ∙ ap₂ compress_of (front m b p (omega arith)) (ap (words_of 16) (drop_at m b (p * 64) h)) in
+    ap₂ hash_value s e ∙ beyond n (m ++ b) (drop 64 d) (p + 1) (omega arith) (omega (arith, length-drop 64 d))
+    ∙ ap (λ (v : List ℕ). folds_of v (drop 64 d) n) o
 
 -- ---- what is left after the whole blocks
 
 pub length_left : (m : List ℕ) → length (left m) ≡ length m % 64
 length_left m = length-drop (length m / 64 * 64) m ∙ omega arith
 
-length_tail : (t : List ℕ) → length t ≤ 64 → length (tail_of t) ≡ 64
-length_tail t h = simp (length-append, length-replicate) (omega arith)
+-- t over zeros
+pub over_zeros : (t : List ℕ) → length t ≤ 64 → copied (zeros 64) t ≡ tail_of t
+over_zeros t h = ap₂ ◌++◌ (take_all 64 t h) (drop_same 0 (length t) 64 h)
 
-pasted : (t d : List ℕ) → length t + length d ≤ 64 → paste (tail_of t) (length t) d (length d) ≡ tail_of (t ++ d)
+pasted : (t d : List ℕ) → length t + length d ≤ 64 → take (length t) (tail_of t) ++ (d ++ drop (length t + length d) (tail_of t)) ≡ tail_of (t ++ d)
 pasted t d h =
     let z : List ℕ = replicate (64 - length t) 0 in
+    let r : List ℕ = replicate (64 - length t - length d) 0 in
     let e : 64 - length t - length d ≡ 64 - length (t ++ d) = rw length-append (omega arith) in
-    ap₂ ◌++◌
-    (ap₂ ◌++◌ (take-append_seam t z) (take-length d))
-    (drop-append-add t z (length d) ∙ drop_same 0 (length d) (64 - length t) (omega arith) ∙ ap (λ (x : ℕ). replicate x 0) e)
+    let f : drop (length t + length d) (t ++ z) ≡ r = drop-append-add t z (length d) ∙ drop_same 0 (length d) (64 - length t) (omega arith) in
+    ap₂ (λ (x y : List ℕ). x ++ (d ++ y)) (take-append_seam t z) f ∙ sym (append_assoc t d r) ∙ ap (λ (n : ℕ). (t ++ d) ++ replicate n 0) e
 
 -- ---- the three ways on
 
-abbrev pub state : Vars → ℕ → List ℕ → Running
+abbrev pub state : List ℕ → ℕ → List ℕ → Running
 state v n t = record { v = v; len = n; tail = t }
 
-pub same : {v w : Vars} {a b : ℕ} {t u : List ℕ} → v ≡ w → a ≡ b → t ≡ u → state v a t ≡ state w b u
+pub same : {v w : List ℕ} {a b : ℕ} {t u : List ℕ} → v ≡ w → a ≡ b → t ≡ u → state v a t ≡ state w b u
 same p q r = cc
+
+-- d written behind the bytes of a tail
+abbrev pub behind : ℕ → List ℕ → List ℕ → List ℕ
+behind k t d = take k t ++ (d ++ drop (k + length d) t)
 
 module _ (m d : List ℕ) where
   stays : length m % 64 + length d ≤ 64 → drop (length m / 64 * 64) (m ++ d) ≡ left m ++ d
@@ -96,55 +106,53 @@ module _ (m d : List ℕ) where
     place : st.len % 64 ≡ length m % 64
     place = let l = len_is in omega arith
 
-    filled : {t : List ℕ} → st.len % 64 + length d ≤ 64 → (length st.tail ≡ 64 → t ≡ paste st.tail (st.len % 64) d (length d)) → t ≡ tail_of (left m ++ d)
-    filled h f =
+    filled : st.len % 64 + length d ≤ 64 → behind (st.len % 64) st.tail d ≡ tail_of (left m ++ d)
+    filled h =
         let p = place in
         let k = length_left m in
         let i : st.len % 64 ≡ length (left m) = omega arith in
-        let l : length st.tail ≡ 64 = rw tail_is (length_tail (left m) (omega arith)) in
-        f l ∙ ap₂ (λ (t : List ℕ) (i : ℕ). paste t i d (length d)) tail_is i ∙ pasted (left m) d (omega arith)
+        ap₂ (λ (i : ℕ) (t : List ℕ). behind i t d) i tail_is ∙ pasted (left m) d (omega arith)
 
     -- d leaves the block unfinished
-    pub within : {n : ℕ} {t : List ℕ} → st.len % 64 + length d < 64 → n ≡ (st.len + length d) % 2 ^ 64
-        → (length st.tail ≡ 64 → t ≡ paste st.tail (st.len % 64) d (length d)) → state st.v n t ≡ running_of (m ++ d)
+    pub within : {n : ℕ} → st.len % 64 + length d < 64 → n ≡ (st.len + length d) % 2 ^ 64 → state st.v n (behind (st.len % 64) st.tail d) ≡ running_of (m ++ d)
     unfolding running_of
-    within h c f =
+    within h c =
         let p = place in
         let q : length (m ++ d) / 64 ≡ length m / 64 = rw length-append (omega arith) in
         rw q
         (same (v_is ∙ (sym (front m d (length m / 64) (omega arith)))) (counts len_is c)
-        (filled (omega arith) f ∙ ap tail_of (sym (stays (omega arith)))))
+        (filled (omega arith) ∙ ap tail_of (sym (stays (omega arith)))))
 
     -- d finishes it
-    pub finishes : {n : ℕ} {t : List ℕ} {w : Vars} → st.len % 64 + length d ≡ 64 → n ≡ (st.len + length d) % 2 ^ 64
-        → (length st.tail ≡ 64 → t ≡ paste st.tail (st.len % 64) d (length d)) → w ≡ compress_of st.v (words_of 16 t) → state w n (replicate 64 0) ≡ running_of (m ++ d)
+    pub finishes : {n : ℕ} {w : List ℕ} → st.len % 64 + length d ≡ 64 → n ≡ (st.len + length d) % 2 ^ 64
+        → w ≡ compress_of st.v (words_of 16 (behind (st.len % 64) st.tail d)) → state w n (replicate 64 0) ≡ running_of (m ++ d)
     unfolding running_of
-    finishes h c f g =
+    finishes h c g =
         let p = place in
         let k = length_left m in
         let la = length-append (left m) d in
         let lb = length-append m d in
         let q : length (m ++ d) / 64 ≡ length m / 64 + 1 = omega arith in
         let z : left (m ++ d) ≡ [] = drop_of_length-le (m ++ d) {i = length (m ++ d) / 64 * 64} (omega arith) in
-        let b : words_of 16 (drop (length m / 64 * 64) (m ++ d)) ≡ words_of 16 _ =
-        ap (words_of 16) (stays (omega arith)) ∙ sym (words_front 16 (left m ++ d) (replicate (64 - length (left m ++ d)) 0) (omega arith)) ∙ ap (words_of 16) (sym (filled (omega arith) f)) in
+        let b : words_of 16 (drop (length m / 64 * 64) (m ++ d)) ≡ words_of 16 (behind (st.len % 64) st.tail d) =
+        ap (words_of 16) (stays (omega arith)) ∙ sym (words_front 16 (left m ++ d) (replicate (64 - length (left m ++ d)) 0) (omega arith)) ∙ ap (words_of 16) (sym (filled (omega arith))) in
         same
         (g ∙ ap₂ compress_of (v_is ∙ (sym (front m d (length m / 64) (omega arith)))) (sym b) ∙ sym (next (m ++ d) (length m / 64)) ∙ ap (λ (x : ℕ). hash_value (m ++ d) x) (sym q))
         (counts len_is c)
         (ap tail_of (sym z))
 
     -- d follows whole blocks
-    pub follows : {n : ℕ} {r t : List ℕ} {w : Vars} → st.len % 64 ≡ 0 → n ≡ (st.len + length d) % 2 ^ 64
-        → w ≡ folds_of st.v d (length d / 64) → r ≡ left d → t ≡ paste (replicate 64 0) 0 r (length r) → state w n t ≡ running_of (m ++ d)
+    pub follows : {n : ℕ} {t w : List ℕ} → st.len % 64 ≡ 0 → n ≡ (st.len + length d) % 2 ^ 64
+        → w ≡ folds_of st.v d (length d / 64) → t ≡ copied (zeros 64) (left d) → state w n t ≡ running_of (m ++ d)
     unfolding running_of
-    follows h c g f u =
+    follows h c g u =
         let p = place in
         let lb = length-append m d in
         let ll = length_left d in
         let q : length (m ++ d) / 64 ≡ length m / 64 + length d / 64 = omega arith in
         let i : length (m ++ d) / 64 * 64 ≡ length m + length d / 64 * 64 = omega arith in
+        let l : left (m ++ d) ≡ left d = rw i (drop-append-add m d (length d / 64 * 64)) in
         same
-        (g ∙ ap (λ (x : Vars). folds_of x d (length d / 64)) v_is ∙ sym (beyond m d (length m / 64) (length d / 64) (omega arith)) ∙ ap (λ (x : ℕ). hash_value (m ++ d) x) (sym q))
+        (g ∙ ap (λ (x : List ℕ). folds_of x d (length d / 64)) v_is ∙ sym (beyond (length d / 64) m d (length m / 64) (omega arith) (omega arith)) ∙ ap (λ (x : ℕ). hash_value (m ++ d) x) (sym q))
         (counts len_is c)
-        (u ∙ ap (λ (x : List ℕ). paste (replicate 64 0) 0 x (length x)) f ∙ pasted [] (left d) (omega arith)
-        ∙ ap tail_of (sym (ap (λ (x : ℕ). drop x (m ++ d)) i ∙ drop-append-add m d (length d / 64 * 64))))
+        (u ∙ over_zeros (left d) (omega arith) ∙ ap tail_of (sym l))

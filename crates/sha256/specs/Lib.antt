@@ -1,4 +1,3 @@
 pub mod Sha256
 pub mod Hmac
 pub mod Running
-pub mod Turns

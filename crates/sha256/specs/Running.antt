@@ -1,8 +1,8 @@
 -- What the running hash and the running HMAC keep of the bytes so far: a function of the joined pieces.
-use Rattle.std.specs.Prelude.{◌≡◌, ℕ, zero, suc, ◌-◌, ◌*◌, ◌/◌, ◌%◌, ◌^◌, List, ◌++◌, length, drop, replicate}
-use Rattle.sha256.specs.declared.Vars.{Vars}
-use Rattle.sha256.specs.declared.Running.{Running}
-use Rattle.sha256.specs.declared.Mac.{Mac}
+use Rattle.std.specs.Prelude.{◌≡◌, ℕ, ◌-◌, ◌*◌, ◌/◌, ◌%◌, ◌^◌, List, ◌++◌, length, drop, replicate, fold}
+use Rattle.std.specs.Simd.{first_chunks}
+use Rattle.sha256.specs.declared.hash.Running.{Running}
+use Rattle.sha256.specs.declared.hmac.Mac.{Mac}
 use Rattle.sha256.specs.Sha256.{hash_value, compress_of, words_of, hash_of}
 use Rattle.sha256.specs.Hmac.{keyed, hmac_of}
 
@@ -22,13 +22,12 @@ abbrev pub Takes : Running → List ℕ → Running → Type 0
 Takes st d r = (m : List ℕ) → st ≡ running_of m → r ≡ running_of (m ++ d)
 
 -- r is the hash value of what st has taken in
-abbrev pub Ends : Running → Vars → Type 0
+abbrev pub Ends : Running → List ℕ → Type 0
 Ends st r = (m : List ℕ) → st ≡ running_of m → r ≡ hash_of m
 
 -- the first n blocks of s taken into a hash value
-unfoldable pub folds_of : Vars → List ℕ → ℕ → Vars
-folds_of v s zero = v
-folds_of v s (suc n) = compress_of (folds_of v s n) (words_of 16 (drop (n * 64) s))
+unfoldable pub folds_of : List ℕ → List ℕ → ℕ → List ℕ
+folds_of v s n = fold (λ v b. compress_of v (words_of 16 b)) v (first_chunks 64 n s)
 
 -- the same of HMAC: the state after the message m under the key k
 unfoldable pub mac_of : List ℕ → List ℕ → Mac

@@ -1,145 +1,112 @@
 // The running hash, which takes pieces of any length, and the hash of a slice.
-ghost use Rattle.std.specs.Prelude.{◌≡◌, ◌+◌, ◌*◌, ◌%◌, ◌^◌, ◌<◌, ◌≤◌, [], length};
-ghost use Rattle.std.proofs.Math.Seq.{paste};
-ghost use Rattle.words.specs.Numbers.{bytes_high};
+ghost use Rattle.std.specs.Prelude.{◌≡◌, ◌+◌, ◌%◌, ◌^◌, ◌<◌, ◌≤◌, ◌++◌, [], length, take, drop};
 ghost use Rattle.sha256.specs.Sha256.{sha256};
 ghost use Rattle.sha256.specs.Running.{running_of, Takes, Ends};
 
-use super::compression::{begin, block, compress, digest, folds};
-use super::{Running, Vars};
-use words::numbers::wide_byte;
+use super::compression::{begin, digest, fold};
+use words::slices::first;
 
-// s over the bytes of t from `at` on.
-fn fill(t: &mut [u8; 64], at: usize, s: &[u8])
-    requires { at + length s.now ≤ 64 }
-    ensures { length t.old ≡ 64 → t.new ≡ paste t.old at s.now (length s.now) }
-{
-    let mut i: usize = 0;
-    while i < s.len() {
-        t[at + i] = s[i];
-        i += 1;
+// What is kept of the bytes so far: the hash value of their whole blocks, their number modulo 2^64, and the bytes after the last whole
+// block, with zeros after them.
+// No heap: the tail has its full size, and `len`, which the padding needs anyway, says how much of it counts.
+#[derive(Clone, Copy)]
+pub struct Running {
+    pub v: [u32; 8],
+    pub len: u64,
+    pub tail: [u8; 64],
+}
+
+impl Running {
+    // No bytes.
+    #[tactic(auto, unfolding(crate::specs::Running::running_of, crate::specs::Sha256::hash_value))]
+    pub fn start() -> Running
+        ensures { result ≡ running_of [] }
+    {
+        let v = begin();
+        let tail = [0; 64];
+        Running { v, len: 0, tail }
     }
-}
 
-// The number of bytes with those of s, modulo 2^64.
-fn advanced(n: u64, s: &[u8]) -> u64
-    ensures { result ≡ (n + length s.now) % 2 ^ 64 }
-{
-    std::num::wrapping_add_u64(n, s.len() as u64)
-}
-
-// Bytes that leave the block open.
-fn short(st: Running, s: &[u8]) -> Running
-    requires { st.len % 64 + length s.now < 64 }
-    ensures { Takes st s.now result }
-{
-    let v = st.v;
-    let mut t = st.tail;
-    let k = (st.len % 64) as usize;
-    fill(&mut t, k, s);
-    let len = advanced(st.len, s);
-    Running {
-        v: v,
-        len: len,
-        tail: t,
+    // The number of bytes with those of s, modulo 2^64.
+    fn advanced(self, s: &[u8]) -> u64
+        ensures { result ≡ (self.len + length s.now) % 2 ^ 64 }
+    {
+        self.len.wrapping_add(s.len() as u64)
     }
-}
 
-// Bytes that end the block.
-fn closed(st: Running, s: &[u8]) -> Running
-    requires { st.len % 64 + length s.now ≡ 64 }
-    ensures { (result.len % 64 ≡ 0) × Takes st s.now result }
-{
-    let v = st.v;
-    let mut t = st.tail;
-    let k = (st.len % 64) as usize;
-    fill(&mut t, k, s);
-    let w = compress(v, block(&t));
-    let len = advanced(st.len, s);
-    let z = [0u8; 64];
-    Running {
-        v: w,
-        len: len,
-        tail: z,
+    // s behind the bytes of the tail.
+    // This one and the three after it: each asks another thing of the tail.
+    fn filled(self, s: &[u8]) -> [u8; 64]
+        requires { self.len % 64 + length s.now ≤ 64 }
+        ensures { result ≡ take (self.len % 64) self.tail ++ (s.now ++ drop (self.len % 64 + length s.now) self.tail) }
+    {
+        let mut t = self.tail;
+        let at = (self.len % 64) as usize;
+        t[at..at + s.len()].copy_from_slice(s);
+        t
     }
-}
 
-// Bytes after a whole number of blocks.
-fn rest(st: Running, s: &[u8]) -> Running
-    requires { st.len % 64 ≡ 0 }
-    ensures { Takes st s.now result }
-{
-    let v = st.v;
-    let w = folds(v, s);
-    let at = s.len() / 64 * 64;
-    let mut t = [0u8; 64];
-    fill(&mut t, 0, &s[at..]);
-    let len = advanced(st.len, s);
-    Running {
-        v: w,
-        len: len,
-        tail: t,
+    // Bytes that leave the block open.
+    fn short(self, s: &[u8]) -> Running
+        requires { self.len % 64 + length s.now < 64 }
+        ensures { Takes self s.now result }
+    {
+        let v = self.v;
+        let len = self.advanced(s);
+        let tail = self.filled(s);
+        Running { v, len, tail }
     }
-}
 
-// Any bytes.
-pub fn take_in(st: Running, s: &[u8]) -> Running
-    ensures { Takes st s.now result }
-{
-    let need = 64 - (st.len % 64) as usize;
-    if s.len() < need {
-        return short(st, s);
+    // Bytes that end the block.
+    fn closed(self, s: &[u8]) -> Running
+        requires { self.len % 64 + length s.now ≡ 64 }
+        ensures { (result.len % 64 ≡ 0) × Takes self s.now result }
+    {
+        let v = fold(self.v, &self.filled(s));
+        let len = self.advanced(s);
+        let tail = [0; 64];
+        Running { v, len, tail }
     }
-    let a = closed(st, &s[..need]);
-    rest(a, &s[need..])
-}
 
-// No bytes.
-pub fn start() -> Running
-    ensures { result ≡ running_of [] }
-{
-    Running {
-        v: begin(),
-        len: 0,
-        tail: [0u8; 64],
+    // Bytes after a whole number of blocks.
+    fn rest(self, s: &[u8]) -> Running
+        requires { self.len % 64 ≡ 0 }
+        ensures { Takes self s.now result }
+    {
+        let (blocks, left) = s.as_chunks();
+        let v = blocks.iter().fold(self.v, fold);
+        let len = self.advanced(s);
+        let tail = first(left);
+        Running { v, len, tail }
     }
-}
 
-// The number of bits of n bytes, modulo 2^64, as eight bytes.
-fn bits(n: u64) -> [u8; 8]
-    ensures { result ≡ bytes_high 8 (8 * n) }
-{
-    let x = n << 3;
-    [
-        wide_byte(x, 7),
-        wide_byte(x, 6),
-        wide_byte(x, 5),
-        wide_byte(x, 4),
-        wide_byte(x, 3),
-        wide_byte(x, 2),
-        wide_byte(x, 1),
-        wide_byte(x, 0),
-    ]
-}
+    // Any bytes.
+    pub fn take_in(self, s: &[u8]) -> Running
+        ensures { Takes self s.now result }
+    {
+        let need = 64 - (self.len % 64) as usize;
+        if s.len() < need {
+            return self.short(s);
+        }
+        let (now, later) = s.split_at(need);
+        self.closed(now).rest(later)
+    }
 
-// The padding is taken in as two more pieces.
-pub fn finish(st: Running) -> Vars
-    ensures { Ends st result }
-{
-    let n = st.len;
-    let e = 1 + ((119 - n % 64) % 64) as usize;
-    let mut p = [0u8; 64];
-    p[0] = 128;
-    let a = take_in(st, &p[..e]);
-    let l = bits(n);
-    let b = take_in(a, &l);
-    b.v
+    // The padding is taken in as two more pieces.
+    pub fn finish(self) -> [u32; 8]
+        ensures { Ends self result }
+    {
+        let mut p = [0; 64];
+        p[0] = 128;
+        let e = 1 + ((119 - self.len % 64) % 64) as usize;
+        let l = self.len.wrapping_mul(8).to_be_bytes();
+        self.take_in(&p[..e]).take_in(&l).v
+    }
 }
 
 // The hash of any bytes.
 pub fn hash(s: &[u8]) -> [u8; 32]
     ensures { result ≡ sha256 s.now }
 {
-    let st = take_in(start(), s);
-    digest(finish(st))
+    digest(Running::start().take_in(s).finish())
 }

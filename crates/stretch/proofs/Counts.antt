@@ -1,7 +1,6 @@
 -- What a state of the stretcher holds and how many compressions led there: by recursion on the blocks, and then on the steps.
 use Rattle.std.proofs.Common.{◌≡◌, ℕ, zero, suc, ◌+◌, ◌/◌, ◌%◌, ◌^◌, ◌<◌, List, ◌++◌, length, sym, refl, ap, ◌∙◌, add-zero, arith, length-append}
 use Rattle.words.specs.Numbers.{Sized}
-use Rattle.sha256.specs.declared.Vars.{Vars}
 use Rattle.sha256.specs.Sha256.{padded, block_of, compress_of, hash_value, hash_of, digest_of, sha256}
 use Rattle.sha256.proofs.Digest.{digest_sized}
 use Rattle.sha256.proofs.Padded.{blocks_are}
@@ -13,7 +12,7 @@ use Rattle.stretch.specs.Stretch.{compressed, compressions, hashed, start_of, st
 compressions_value : (c : ℕ) (s : List ℕ) (n : ℕ) → (compressions c s n).v ≡ hash_value s n
 unfolding compressions compressed hash_value
 compressions_value c s zero = refl
-compressions_value c s (suc n) = ap (λ (v : Vars). compress_of v (block_of n s)) (compressions_value c s n)
+compressions_value c s (suc n) = ap (λ (v : List ℕ). compress_of v (block_of n s)) (compressions_value c s n)
 
 pub hashed_value : (c : ℕ) (m : List ℕ) → (hashed c m).v ≡ hash_of m
 unfolding hashed hash_of
@@ -61,7 +60,7 @@ unfolding compressions compressed
 single c s = refl
 
 -- a hash of 32 bytes is one compression
-one_block : (c : ℕ) (v : Vars) → (hashed c (digest_of v)).count ≡ (c + 1) % 2 ^ 64
+one_block : (c : ℕ) (v : List ℕ) → (hashed c (digest_of v)).count ≡ (c + 1) % 2 ^ 64
 unfolding hashed
 one_block c v =
     let z = (digest_sized v).long in
@@ -77,11 +76,11 @@ step_value : (s : Stretcher) → (step_of s).v ≡ hash_of (digest_of s.v)
 unfolding step_of
 step_value s = hashed_value s.count (digest_of s.v)
 
-both : {a : Stretcher} {v : Vars} {n : ℕ} → v ≡ a.v → n ≡ a.count → ◌≡◌ {A = Stretcher} (record { v = v; count = n }) a
+both : {a : Stretcher} {v : List ℕ} {n : ℕ} → v ≡ a.v → n ≡ a.count → ◌≡◌ {A = Stretcher} (record { v = v; count = n }) a
 both p q = λ i. record { v = p i; count = q i }
 
 -- a step, as one compression of the words that the state holds
-pub step_is : (s : Stretcher) {v : Vars} {n : ℕ} → v ≡ hash_of (digest_of s.v) → n ≡ (s.count + 1) % 2 ^ 64
+pub step_is : (s : Stretcher) {v : List ℕ} {n : ℕ} → v ≡ hash_of (digest_of s.v) → n ≡ (s.count + 1) % 2 ^ 64
     → ◌≡◌ {A = Stretcher} (record { v = v; count = n }) (step_of s)
 step_is s p q = both (p ∙ sym (step_value s)) (q ∙ sym (step_count s))
 

@@ -1,7 +1,8 @@
 -- The bytes of a padded message of two parts, one block of them, and the blocks as far as they are taken in: by where each byte's index falls.
-use Rattle.std.proofs.Common.{◌≡◌, ℕ, ◌+◌, ◌-◌, ◌*◌, ◌/◌, ◌<◌, ◌≤◌, List, [], ◌∷◌, ◌++◌, length, get_or, take, drop, set, replicate, sym, refl, ap, ◌∙◌, ap₂, zero-add, add-one, arith, length-append, length-drop, take-append-drop, length-take-le, get_or-drop, take_all, get_or-take, get_or-append-add}
+use Rattle.std.proofs.Common.{◌≡◌, ℕ, ◌+◌, ◌-◌, ◌*◌, ◌/◌, ◌<◌, ◌≤◌, List, ◌++◌, length, get_or, map, take, drop, sym, ap, ◌∙◌, add-one, arith, length-append, length-drop, take-append-drop, length-take-le, get_or-drop, get_or-take, get_or-append-add}
 use lib.ListN.{get_or-append}
-use lib.Seq.{paste, paste-zero, paste-suc, length-paste}
+use Rattle.std.proofs.lemmas.List.FromFn.{fill_by_all}
+use Rattle.std.specs.List.{range_with_len}
 use Rattle.sha256.specs.Sha256.{padding, padded, words_of, block_of}
 use Rattle.sha256.proofs.Pieces.{words_front}
 use Rattle.sha256.proofs.Padded.{blocks_are, whole_blocks_lem}
@@ -30,51 +31,23 @@ module _ (p s : List ℕ) where
       → b ≡ get_or (padding (length p + length s)) (i - length p - length s) 0 → b ≡ get_or (padded m) i 0
   in_padding i h k e =
       let l = length-append p s in
-      let j : i ≡ length m + (i - length p - length s) = omega arith in
-      e
-      ∙ ap (λ (n : ℕ). get_or (padding n) (i - length p - length s) 0) (sym l)
-      ∙ sym (ap (λ (x : ℕ). get_or (padded m) x 0) j ∙ get_or-append-add m (padding (length m)) (i - length p - length s) 0)
-
--- block q of a list, byte by byte over zeros
-abbrev pub block : List ℕ → ℕ → List ℕ
-block l q = take 64 (drop (64 * q) l)
-
-abbrev pub done : List ℕ → ℕ → ℕ → List ℕ
-done l q i = paste (replicate 64 0) 0 (block l q) i
-
-pub none_done : (l : List ℕ) (q : ℕ) → replicate 64 0 ≡ done l q 0
-none_done l q = paste-zero (replicate 64 0) 0 (block l q)
+      let x : ℕ = i - length p - length s in
+      let j : i ≡ length m + x = omega arith in
+      e ∙ ap (λ (a : ℕ). get_or (padding a) x 0) (sym l) ∙ sym (ap (λ (a : ℕ). get_or (padded m) a 0) j ∙ get_or-append-add m (padding (length m)) x 0)
 
 module _ (l : List ℕ) (q : ℕ) (h : 64 * q + 64 ≤ length l) where
-  block_long : length (block l q) ≡ 64
-  block_long = length-take-le 64 (drop (64 * q) l) (simp length-drop (omega arith))
+  -- block q, byte by byte
+  pub block_is : map (λ (i : ℕ). get_or l (64 * q + i) 0) (range_with_len 0 64) ≡ take 64 (drop (64 * q) l)
+  block_is =
+      sym
+      (fill_by_all (λ (i : ℕ). get_or l (64 * q + i) 0) (take 64 (drop (64 * q) l)) 64 0
+      (length-take-le 64 (drop (64 * q) l) (simp length-drop (omega arith)))
+      (λ i k. get_or-take 64 (drop (64 * q) l) i 0 k ∙ get_or-drop (64 * q) l i 0))
 
-  pub more : (b : List ℕ) (i : ℕ) {x : ℕ} → i < 64 → b ≡ done l q i → x ≡ get_or l (64 * q + i) 0 → set b i x ≡ done l q (i + 1)
-  more b i {x = x} k e g =
-      let z = zero-add i in
-      let n = block_long in
-      let v : x ≡ get_or (block l q) i 0 = g ∙ sym (get_or-take 64 (drop (64 * q) l) i 0 k ∙ get_or-drop (64 * q) l i 0) in
-      rw add-one
-      (ap₂ (λ (c : List ℕ) (y : ℕ). set c i y) e v
-      ∙ ap (λ (j : ℕ). set (done l q i) j (get_or (block l q) i 0)) (sym z)
-      ∙ paste-suc (replicate 64 0) 0 (block l q) i 0 (omega arith) (omega arith))
-
-  pub done_long : (i : ℕ) → i ≤ 64 → length (done l q i) ≡ 64
-  done_long i k = let n = block_long in length-paste (replicate 64 0) 0 (block l q) i (omega arith) (omega arith)
-
-  pub all : (i : ℕ) → i ≡ 64 → done l q i ≡ block l q
-  all i e =
-      let n = block_long in
-      ap (done l q) e ∙ ap (λ (c : List ℕ). c ++ []) (take_all 64 (block l q) (omega arith)) ∙ append_none (block l q)
-    where
-      append_none : (c : List ℕ) → c ++ [] ≡ c
-      append_none [] = refl
-      append_none (a ∷ c) = ap (λ (d : List ℕ). a ∷ d) (append_none c)
-
-  pub words_are : words_of 16 (block l q) ≡ block_of q l
+  pub words_are : words_of 16 (take 64 (drop (64 * q) l)) ≡ block_of q l
   words_are =
-      let n = block_long in
-      sym (words_front 16 (block l q) (drop 64 (drop (64 * q) l)) (omega arith)) ∙ ap (words_of 16) (take-append-drop 64 (drop (64 * q) l))
+      let n = length-take-le 64 (drop (64 * q) l) (simp length-drop (omega arith)) in
+      sym (words_front 16 (take 64 (drop (64 * q) l)) (drop 64 (drop (64 * q) l)) (omega arith)) ∙ ap (words_of 16) (take-append-drop 64 (drop (64 * q) l))
 
 -- one block more
 pub taken : (c : ℕ) (l : List ℕ) (q : ℕ) {s r : Stretcher} {b : List ℕ} → s ≡ compressions c l q → b ≡ block_of q l → r ≡ compressed s b
@@ -83,16 +56,16 @@ unfolding compressions
 taken c l q e f g = rw add-one (cc)
 
 -- all blocks
-pub all_taken : (p s : List ℕ) (q : ℕ) → q ≡ (length p + length s + 8) / 64 + 1 → compressions 0 (padded (p ++ s)) q ≡ start_of p s
+pub all_taken : (p s : List ℕ) (q : ℕ) → length s ≡ 32 → q ≡ (length p + 40) / 64 + 1 → compressions 0 (padded (p ++ s)) q ≡ start_of p s
 unfolding start_of hashed
-all_taken p s q e =
+all_taken p s q t e =
     let l = length-append p s in
     let b = blocks_are (p ++ s) in
     let f : q ≡ length (padded (p ++ s)) / 64 = omega arith in
     ap (compressions 0 (padded (p ++ s))) f
 
-pub room_left : (p s : List ℕ) (q : ℕ) → q < (length p + length s + 8) / 64 + 1 → 64 * q + 64 ≤ length (padded (p ++ s))
-room_left p s q h =
+pub room_left : (p s : List ℕ) (q : ℕ) → length s ≡ 32 → q ≤ (length p + 40) / 64 → 64 * q + 64 ≤ length (padded (p ++ s))
+room_left p s q t h =
     let l = length-append p s in
     let w = whole_blocks_lem (p ++ s) in
     omega arith

@@ -1,20 +1,21 @@
 -- What `talc_read` and `talc_write` leave is what some answer of `read` and `write` is laid out to, since the contracts speak of the same report.
 use Prim.Native.Nat.{ℕ}
 use mathlib.Core.Path.{◌≡◌, sym, ap, ◌∙◌}
-use mathlib.Core.List.{List, [], ◌∷◌, ◌++◌}
+use mathlib.Core.List.{List, ◌++◌}
 use Rattle.file.specs.Reading.{Report}
-use Rattle.safe.specs.Answers.{header_count, record_count, written_number, reported}
+use Rattle.std.specs.Prelude.{Result}
+use Rattle.safe.specs.Answers.{answer_number, k_given, l_given, reported}
 use Rattle.safe.specs.declared.Reading.{Reading}
-use Rattle.safe.specs.declared.Written.{Written}
+use Rattle.safe.specs.declared.Refusal.{Refusal}
 use Rattle.safe.specs.Calls.{number_of, Reads, Writes}
 use Rattle.safe.proofs.Told.{a_reading, a_writing}
 use Rattle.talcfeather.specs.Numbers.{in_bytes}
-use Rattle.talcfeather.specs.Read.{TalcRead, answer_bytes}
+use Rattle.talcfeather.specs.Read.{TalcRead, answer_bytes, numbers_given}
 use Rattle.talcfeather.specs.Write.{TalcWrite}
 
 -- K, L, the counts of header fields and records, and the two counts of work, in bytes
 abbrev pub answer_of : Reading → List ℕ
-answer_of r = r.k ++ (r.l ++ in_bytes (header_count r.outcome ∷ record_count r.outcome ∷ r.compressions ∷ r.blocks ∷ []))
+answer_of r = k_given r.outcome ++ (l_given r.outcome ++ in_bytes (numbers_given r))
 
 pub record AsRead (file passphrase : List ℕ) (ceiling : ℕ) (before : List ℕ) (number : ℕ) (workspace answer : List ℕ) : Type 0 where
   pub r : Reading
@@ -36,7 +37,7 @@ as_read {file} {passphrase} {before} {ceiling = ceiling} c =
     }
 
 pub as_written : {passphrase salt K L iv body before output : List ℕ} {iter n : ℕ} → TalcWrite passphrase salt iter K L iv body before n output
-    → (r : Written) × Writes passphrase salt iter K L iv body before output r × (n ≡ written_number r)
+    → (r : Result Unit Refusal) × Writes passphrase salt iter K L iv body before output r × (n ≡ answer_number r)
 as_written {passphrase} {salt} {K} {L} {iv} {body} {iter = iter} c =
     let a = a_writing passphrase salt iter K L iv body _ in
     (a.0, record { values = c.values; number = a.1; output = c.is_output }, c.is_number ∙ sym a.1)

@@ -10,6 +10,7 @@ use Rattle.words.specs.Numbers.{bytes_low}
 use Rattle.words.specs.Slices.{zeros}
 use Rattle.file.specs.Description.{IsSafe}
 use Rattle.safe.specs.V3.{v3}
+use Rattle.safe.specs.Answers.{k_given, l_given}
 use Rattle.safe.specs.Calls as Calls
 use Rattle.safe.specs.Calls.{salt_in, iter_in, iv_in, Matching, OneToSeven, Accepts}
 use Rattle.safe.proofs.Demands as Demands
@@ -32,9 +33,9 @@ module _ {file passphrase before workspace answer : List ℕ} {ceiling n : ℕ} 
   accepts_as : {K L body : List ℕ} → TalcAccepts file before n workspace answer K L body ↔ Accepts file before workspace a.r K L body
   accepts_as =
       let l = keys_long a.reads in
-      let k_is : take 32 answer ≡ a.r.k = ap (take 32) a.answer_is ∙ take_at a.r.k _ 32 l.0 in
-      let rest = ap (drop 32) a.answer_is ∙ drop_at a.r.k _ 32 l.0 in
-      let l_is : take 32 (drop 32 answer) ≡ a.r.l = ap (take 32) rest ∙ take_at a.r.l _ 32 l.1 in (
+      let k_is : take 32 answer ≡ k_given a.r.outcome = ap (take 32) a.answer_is ∙ take_at (k_given a.r.outcome) _ 32 l.0 in
+      let rest = ap (drop 32) a.answer_is ∙ drop_at (k_given a.r.outcome) _ 32 l.0 in
+      let l_is : take 32 (drop 32 answer) ≡ l_given a.r.outcome = ap (take 32) rest ∙ take_at (l_given a.r.outcome) _ 32 l.1 in (
         λ h. record {
           number = sym a.number_is ∙ h.accepts;
           gives_k = sym k_is ∙ h.gives_k;

@@ -11,8 +11,9 @@ use Rattle.fields.specs.Stored.{Stored}
 use Rattle.body.specs.Find.{HasUuid, Says, find_number, find_values}
 use Rattle.body.specs.Visited.{Decides, Visited}
 use Rattle.body.specs.WellFormed.{WellFormed}
-use Rattle.body.specs.declared.Sought.{Sought}
-use Rattle.body.specs.declared.Sought.TheVariants.{At, Nowhere, NotWellFormed}
+use Rattle.std.specs.Prelude.{Option, None, Some, Result, Ok, Err}
+use Rattle.body.specs.declared.NotWellFormed.{NotWellFormed}
+use Rattle.body.specs.declared.Place.{Place}
 use Rattle.body.specs.declared.Found.{Found}
 use Rattle.body.proofs.FindCall.{find_says, find_only}
 use Rattle.body.proofs.FindCount.{count_says, count_exactly, count_bound, same_answer}
@@ -20,14 +21,17 @@ use Rattle.talcfeather.specs.Numbers.{with_zeros, marked, in_bytes}
 use Rattle.talcfeather.specs.Find.{TalcFind, find_numbers, found_of, told_visited}
 use Rattle.talcfeather.proofs.InBytes.{number_at}
 
+abbrev Sought : Type 0
+Sought = Result (Option Place) NotWellFormed
+
 -- ---- the count, as it stands in the answer
 at_24 : (f : Found) → take 8 (drop 24 (in_bytes (find_numbers f))) ≡ bytes_low 8 f.visited
 at_24 f = by f.sought
   where
     by : (s : Sought) → take 8 (drop 24 (in_bytes (with_zeros 3 (marked (find_values s)) ++ (f.visited ∷ [])))) ≡ bytes_low 8 f.visited
-    by (At n p) = number_at (1 ∷ n ∷ p ∷ f.visited ∷ []) 3 (omega arith)
-    by Nowhere = number_at (0 ∷ 0 ∷ 0 ∷ f.visited ∷ []) 3 (omega arith)
-    by NotWellFormed = number_at (0 ∷ 0 ∷ 0 ∷ f.visited ∷ []) 3 (omega arith)
+    by (Ok (Some x)) = number_at (1 ∷ x.number ∷ x.place ∷ f.visited ∷ []) 3 (omega arith)
+    by (Ok None) = number_at (0 ∷ 0 ∷ 0 ∷ f.visited ∷ []) 3 (omega arith)
+    by (Err e) = number_at (0 ∷ 0 ∷ 0 ∷ f.visited ∷ []) 3 (omega arith)
 
 module _ {body uuid answer : List ℕ} {n : ℕ} (c : TalcFind body uuid n answer) where
   counts : Visited body uuid (found_of body uuid).sought (found_of body uuid).visited
@@ -73,9 +77,8 @@ module _ {body uuid answer : List ℕ} {n : ℕ} (c : TalcFind body uuid n answe
   visited_refused h = told ∙ by (found_of body uuid).sought counts (sym c.is_number ∙ h)
     where
       by : (s : Sought) → Visited body uuid s (found_of body uuid).visited → find_number s ≡ 9 → (found_of body uuid).visited ≡ 0
-      by (At m p) v e = absurd (omega arith)
-      by Nowhere v e = absurd (omega arith)
-      by NotWellFormed v e = v
+      by (Ok o) v e = absurd (omega arith)
+      by (Err x) v e = v
 
 -- "equal for every body with the same fields up to the deciding one": number and answer
 pub same_told : {body body' uuid answer answer' : List ℕ} {n n' : ℕ} → TalcFind body uuid n answer → TalcFind body' uuid n' answer'

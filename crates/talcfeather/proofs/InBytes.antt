@@ -1,15 +1,15 @@
--- Each byte of stored numbers is a byte of one of them, by recursion on the list; so the loop that goes byte by byte stores them all.
+-- Numbers stored one behind the other: where each stands, and that a loop that lays one after the other stores them all. By recursion on the list.
 use mathlib.Core.Path.{◌≡◌, refl, sym, ap, ap₂, ◌∙◌}
-use mathlib.Core.Bool.{Bool, true, false}
-use mathlib.Core.List.{List, [], ◌∷◌, ◌++◌, append-nil}
-use Prim.Native.Nat.{ℕ, zero, suc, ◌+◌, ◌-◌, ◌*◌, ◌/◌, ◌%◌, ◌<◌, ◌≤◌}
+use mathlib.Core.List.{List, [], ◌∷◌, ◌++◌, append_assoc, append-nil}
+use Prim.Native.Nat.{ℕ, zero, suc, ◌+◌, ◌-◌, ◌*◌, ◌<◌, ◌≤◌}
 use native.Mathlib.Omega.{arith}
-use borrow.Author.Tests.{ltb-true, ltb-false}
-use lib.Dec.{ltb}
-use lib.ListN.{length, get_or, take, drop, length-append, drop_of_length-le, get_or-append}
-use lib.Seq.{paste, take_all, take_at, drop_at, drop-drop, get_or-append-add}
-use Rattle.words.specs.Numbers.{bytes_low, byte_of}
-use Rattle.words.proofs.NumberLaws.{bytes_sized, byte_is}
+use native.Mathlib.Numerals.{add-one}
+use borrow.Rule.Slice.PartMut.{put_mid}
+use lib.ListN.{length, get_or, take, drop, length-append, drop_of_length-le}
+use lib.Seq.{take_all, take_at, drop_at, drop-drop, length-take-le}
+use Rattle.words.specs.Numbers.{bytes_low}
+use Rattle.words.proofs.NumberLaws.{bytes_sized}
+use Rattle.words.proofs.SliceLaws.{put_next}
 use Rattle.talcfeather.specs.Numbers.{in_bytes}
 
 pub stored_length : (l : List ℕ) → length (in_bytes l) ≡ 8 * length l
@@ -28,40 +28,33 @@ number_at (x ∷ l) (suc i) h =
     ∙ ap (take 8) (sym (drop-drop (8 * i) 8 (bytes_low 8 x ++ in_bytes l)) ∙ ap (drop (8 * i)) (drop_at (bytes_low 8 x) (in_bytes l) 8 (bytes_sized 8 x).long))
     ∙ number_at l i (omega arith)
 
--- byte i of stored numbers is byte i % 8 of number i / 8
-abbrev Right : List ℕ → ℕ → Type 0
-Right l i = get_or (in_bytes l) i 0 ≡ byte_of (i % 8) (get_or l (i / 8) 0)
-
-pub stored_at : (l : List ℕ) (i : ℕ) → i < 8 * length l → Right l i
+-- the first numbers and one more
+one_more : (l : List ℕ) (i : ℕ) → i < length l → in_bytes (take (suc i) l) ≡ in_bytes (take i l) ++ bytes_low 8 (get_or l i 0)
 unfolding in_bytes
-stored_at [] i h = absurd (omega arith)
-stored_at (x ∷ l) i h = by (ltb i 8) refl (λ k. stored_at l (i - 8) (omega arith))
-  where
-    eight : length (bytes_low 8 x) ≡ 8
-    eight = (bytes_sized 8 x).long
+one_more [] i h = absurd (omega arith)
+one_more (x ∷ l) zero h = append-nil (bytes_low 8 x)
+one_more (x ∷ l) (suc i) h =
+    ap (λ (s : List ℕ). bytes_low 8 x ++ s) (one_more l i (omega arith)) ∙ sym (append_assoc (bytes_low 8 x) (in_bytes (take i l)) (bytes_low 8 (get_or l i 0)))
 
-    here : i < 8 → Right (x ∷ l) i
-    here k =
-        let r : i % 8 ≡ i = omega arith in
-        let q : i / 8 ≡ 0 = omega arith in
-        get_or-append (bytes_low 8 x) (in_bytes l) 0 i (omega (arith, eight)) ∙ byte_is 8 i x k
-        ∙ sym (ap₂ (λ (m n : ℕ). byte_of m (get_or (x ∷ l) n 0)) r q)
+-- the loop that stores them one by one: the first numbers stand in front, and behind them is what was there
+abbrev pub Stored : (l m : List ℕ) (i : ℕ) → List ℕ → Type 0
+Stored l m i s = s ≡ in_bytes (take i l) ++ drop (8 * i) m
 
-    there : 8 ≤ i → Right l (i - 8) → Right (x ∷ l) i
-    there k rest =
-        let e : i ≡ length (bytes_low 8 x) + (i - 8) = omega (arith, eight) in
-        let r : (i - 8) % 8 ≡ i % 8 = omega arith in
-        let q : suc ((i - 8) / 8) ≡ i / 8 = omega arith in
-        ap (λ (n : ℕ). get_or (bytes_low 8 x ++ in_bytes l) n 0) e ∙ get_or-append-add (bytes_low 8 x) (in_bytes l) (i - 8) 0
-        ∙ rest
-        ∙ ap₂ (λ (m n : ℕ). byte_of m (get_or (x ∷ l) n 0)) r q
+pub stored_none : (l m : List ℕ) → Stored l m 0 m
+unfolding in_bytes
+stored_none l m = refl
 
-    by : (b : Bool) → ltb i 8 ≡ b → (8 ≤ i → Right l (i - 8)) → Right (x ∷ l) i
-    by true e rest = here (ltb-true i 8 e)
-    by false e rest = there (ltb-false i 8 e) (rest (ltb-false i 8 e))
+pub stored_next : (l m : List ℕ) (i : ℕ) {before new : List ℕ} → i < length l → Stored l m i before → new ≡ bytes_low 8 (get_or l i 0)
+    → Stored l m (i + 1) (put_mid (8 * i) (8 * i + 8 - 8 * i) before new)
+stored_next l m i {new = new} h e n =
+    let k : 8 * i + 8 - 8 * i ≡ 8 = omega arith in
+    let j : 8 * i + 8 ≡ 8 * (i + 1) = omega arith in
+    let long : length (in_bytes (take i l)) ≡ 8 * i = stored_length (take i l) ∙ ap (λ (j : ℕ). 8 * j) (length-take-le i l (omega arith)) in
+    ap₂ (λ (w : ℕ) (b : List ℕ). put_mid (8 * i) w b new) k e
+    ∙ put_next (in_bytes (take i l)) (bytes_low 8 (get_or l i 0)) (drop (8 * i) m) new (8 * i) 8 long n
+    ∙ ap₂ (λ (a b : List ℕ). a ++ b) (sym (one_more l i h) ∙ ap (λ (t : ℕ). in_bytes (take t l)) (sym (add-one i))) (drop-drop 8 (8 * i) m ∙ ap (λ (t : ℕ). drop t m) j)
 
--- the last byte is reached
-pub all_stored : (m s : List ℕ) (i : ℕ) → length m ≡ length s → length s ≤ i → paste m 0 s i ≡ s
-all_stored m s i e h =
-    let d : drop (0 + i) m ≡ [] = drop_of_length-le m {i = 0 + i} (omega arith) in
-    ap₂ (λ (a b : List ℕ). a ++ b) (take_all i s h) d ∙ append-nil s
+pub stored_all : (l m : List ℕ) (i : ℕ) {s : List ℕ} → length m ≡ 8 * length l → length l ≤ i → Stored l m i s → s ≡ in_bytes l
+stored_all l m i h k e =
+    let d : drop (8 * i) m ≡ [] = drop_of_length-le m {i = 8 * i} (omega arith) in
+    e ∙ ap₂ (λ (a b : List ℕ). in_bytes a ++ b) (take_all i l k) d ∙ append-nil (in_bytes l)

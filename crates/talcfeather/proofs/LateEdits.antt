@@ -10,14 +10,12 @@ use Rattle.replay.specs.Trace.{Event, events_of}
 use Rattle.replay.specs.Cancelled.{Held, Alike, AlikeButEdits}
 use Rattle.replay.specs.Acceptance.{Acceptable, FirstFault}
 use Rattle.replay.specs.State.{is_state, fresh}
-use Rattle.replay.specs.Replay.{replay_of, standing_of}
+use Rattle.std.specs.Prelude.{Ok, Err}
+use Rattle.replay.specs.Replay.{Replayed, Stood, replay_of, standing_of}
 use Rattle.replay.specs.Answers.{replay_number, replay_numbers, standing_number, standing_numbers}
 use Rattle.replay.specs.Calls.{Replays, Stands, Call, Calls, if_accepted, accepted, AllAccepted, TraceOf, StandsAs}
-use Rattle.replay.specs.declared.Replayed.{Replayed}
-use Rattle.replay.specs.declared.Replayed.TheVariants.{Accepted, Refused, NotAState}
+use Rattle.replay.specs.declared.ReplayRefusal.TheVariants.{Record, NotAState}
 use Rattle.replay.specs.declared.Login.{Login}
-use Rattle.replay.specs.declared.Stood.{Stood}
-use Rattle.replay.specs.declared.Stood.TheVariants.{Of}
 use Rattle.replay.proofs.Marks.{cancelled_by, cancelled_but_edits}
 use Rattle.replay.proofs.Promises as promises
 use Rattle.replay.proofs.Order as order
@@ -32,15 +30,15 @@ as_standing : {s u answer : List ℕ} {n : ℕ} → TalcStanding s u n answer �
 as_standing c = record { long = c.long; is_answer = refl }
 
 -- 0 is an acceptance
-zero_accepted : (a : Replayed) → replay_number a ≡ 0 → a ≡ Accepted
-zero_accepted Accepted e = refl
-zero_accepted (Refused m) e = absurd (omega arith)
-zero_accepted NotAState e = absurd (omega arith)
+zero_accepted : (a : Replayed) → replay_number a ≡ 0 → a ≡ Ok tt
+zero_accepted (Ok x) e = refl
+zero_accepted (Err (Record m)) e = absurd (omega arith)
+zero_accepted (Err NotAState) e = absurd (omega arith)
 
 if_zero : (a : Replayed) (es : List Event) → cond (eqb (replay_number a) 0) es [] ≡ if_accepted a es
-if_zero Accepted es = refl
-if_zero (Refused m) es = refl
-if_zero NotAState es = refl
+if_zero (Ok x) es = refl
+if_zero (Err (Record m)) es = refl
+if_zero (Err NotAState) es = refl
 
 -- the same calls, by their answers
 record AsCalls (s : List ℕ) (cs : List Traced) (z : List ℕ) : Type 0 where
@@ -77,7 +75,7 @@ module _ (cs : List Traced) (s : List ℕ) (c : TalcCalls fresh cs s) where
 
   -- Q8.a "From a fresh state, a login is cancelled exactly when the traces accepted so far, taken together, hold a cancel of it and no reissue with a time greater than its latest cancel."
   pub stands_as : {u answer : List ℕ} {n : ℕ} → TalcStanding s u n answer
-      → (l : Login) × (n ≡ 0) × (answer ≡ in_bytes (standing_numbers (Of l))) × StandsAs u (held_by cs) l
+      → (l : Login) × (n ≡ 0) × (answer ≡ in_bytes (standing_numbers (Ok l))) × StandsAs u (held_by cs) l
   stands_as {u} h =
       let t = promises.stands_as ds s are u (standing_of s u) (as_standing h) in (
         t.0,
@@ -110,19 +108,19 @@ module _ (cs : List Traced) (s : List ℕ) (c : TalcCalls fresh cs s) where
     refused_only h = by (replay_of s t) refl
       where
         by : (a : Replayed) → replay_of s t ≡ a → (m : ℕ) × FirstFault (held_by cs) t m
-        by Accepted e = absurd (h (r.is_number ∙ ap replay_number e))
-        by (Refused m) e = (m, subst (λ (es : List Event). FirstFault es t m) held ((promises.refused_exactly ds s are (as_replay r) m).0 e))
-        by NotAState e = absurd (promises.always_a_state ds s are (as_replay r) e)
+        by (Ok x) e = absurd (h (r.is_number ∙ ap replay_number e))
+        by (Err (Record m)) e = (m, subst (λ (es : List Event). FirstFault es t m) held ((promises.refused_exactly ds s are (as_replay r) m).0 e))
+        by (Err NotAState) e = absurd (promises.always_a_state ds s are (as_replay r) e)
 
 -- Q8.c "and the standing of every login stays what it was": of any bytes, no byte changes unless the trace is accepted.
 pub refused_unchanged : {before t after answer : List ℕ} {n : ℕ} → TalcReplay before t n after answer → (n ≡ 0 → ⊥) → after ≡ before
 refused_unchanged r h = promises.refused_unchanged (as_replay r) (λ e. h (r.is_number ∙ ap replay_number e))
 
 -- Q8.f: 19 exactly of bytes that are no state; what is left of a state is one.
-nineteen : (a : Replayed) → replay_number a ≡ 19 → a ≡ NotAState
-nineteen Accepted e = absurd (omega arith)
-nineteen (Refused m) e = absurd (omega arith)
-nineteen NotAState e = refl
+nineteen : (a : Replayed) → replay_number a ≡ 19 → a ≡ Err NotAState
+nineteen (Ok x) e = absurd (omega arith)
+nineteen (Err (Record m)) e = absurd (omega arith)
+nineteen (Err NotAState) e = refl
 
 module _ {before t after answer : List ℕ} {n : ℕ} (r : TalcReplay before t n after answer) where
   pub no_state_exactly : (n ≡ 19) ↔ (is_state before ≡ false)

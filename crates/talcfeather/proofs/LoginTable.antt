@@ -5,26 +5,34 @@ use mathlib.Core.Logic.{◌↔◌}
 use mathlib.Core.List.{List, [], ◌∷◌, ◌++◌}
 use native.Mathlib.Omega.{arith}
 use lib.ListN.{length, take}
+use Rattle.std.specs.Prelude.{Option, Some, Result, Ok, Err}
 use Rattle.fields.specs.Stored.{Stored}
 use Rattle.body.specs.WellFormed.{WellFormed}
 use Rattle.rows.specs.Login.{Login, table_of}
 use Rattle.rows.specs.Import.{values_of, import_of, show_of, Imports, Shows}
 use Rattle.rows.specs.Says.{Holds, ImportSays, RowIs, RowSays}
 use Rattle.rows.specs.Answers.{import_number, import_numbers, row_number, row_numbers}
-use Rattle.rows.specs.declared.Imported.{Imported}
-use Rattle.rows.specs.declared.Imported.TheVariants as imported
-use Rattle.rows.specs.declared.Shown.{Shown}
-use Rattle.rows.specs.declared.Shown.TheVariants as shown
+use Rattle.rows.specs.declared.RowRefusal.{RowRefusal}
+use Rattle.rows.specs.declared.Values.{Values}
 use Rattle.rows.proofs.Promises as rows
 use Rattle.logins.specs.Record.{login_of}
 use Rattle.logins.specs.Export.{export_of, output_after, Exports}
 use Rattle.logins.specs.Says.{Written, ExportSays, AgreeAll}
 use Rattle.logins.specs.Answers.{export_number, export_numbers}
-use Rattle.logins.specs.declared.Exported.{Exported}
-use Rattle.logins.specs.declared.Exported.TheVariants.{Rows, NotWellFormed, Refused, NoRoom}
+use Rattle.logins.specs.declared.ExportRefusal.{ExportRefusal}
+use Rattle.logins.specs.declared.ExportRefusal.TheVariants.{NotWellFormed, Faulty, NoRoom}
 use Rattle.logins.proofs.Promises as logins
 use Rattle.talcfeather.specs.Numbers.{in_bytes}
 use Rattle.talcfeather.specs.Table.{TalcExport, TalcImport, TalcRow}
+
+abbrev Exported : Type 0
+Exported = Result ℕ ExportRefusal
+
+abbrev Imported : Type 0
+Imported = Result ℕ RowRefusal
+
+abbrev Shown : Type 0
+Shown = Result (Option Values) RowRefusal
 
 -- a call, with the answer that its number and its bytes are of
 as_export : {s b z a : List ℕ} {t n : ℕ} → TalcExport s t b n z a → Exports s t b (export_of s (length b)) z
@@ -52,10 +60,8 @@ pub refused_unchanged : {s b z a : List ℕ} {t n : ℕ} → TalcExport s t b n 
 refused_unchanged {s} {b} {z} {a} {t} c h = c.is_output ∙ by (export_of s (length b)) (λ e. h (c.is_number ∙ e))
   where
     by : (r : Exported) → (export_number r ≡ 0 → ⊥) → output_after r t s b ≡ b
-    by (Rows n) h = absurd (h refl)
-    by NotWellFormed h = refl
-    by (Refused n k) h = refl
-    by NoRoom h = refl
+    by (Ok n) h = absurd (h refl)
+    by (Err e) h = refl
 
 -- Q6.e "No password leaves.": of two well-formed bodies whose records agree in UUID and the first group, title, user name and expiry, number, output and answer are the same, whatever else they hold.
 pub no_password : {s s' b z z' a a' : List ℕ} {t n n' : ℕ} (w : WellFormed s) (w' : WellFormed s') → AgreeAll w.records w'.records
@@ -73,11 +79,11 @@ pub rows_written : {s b z a : List ℕ} {t n : ℕ} → TalcExport s t b n z a �
 rows_written {s} {b} {z} {a} {t} c h = by (export_of s (length b)) refl (sym c.is_number ∙ h)
   where
     by : (r : Exported) → export_of s (length b) ≡ r → export_number (export_of s (length b)) ≡ 0 → (m : ℕ) × (a ≡ in_bytes (m ∷ 0 ∷ 0 ∷ [])) × Written s t b m z
-    by (Rows m) e h =
+    by (Ok m) e h =
         (m, c.is_answer ∙ ap (λ (r : Exported). in_bytes (export_numbers r)) e, logins.says (subst (λ (r : Exported). Exports s t b r z) e (as_export c)))
-    by NotWellFormed e h = absurd (omega (arith, ap export_number e))
-    by (Refused n k) e h = absurd (omega (arith, ap export_number e))
-    by NoRoom e h = absurd (omega (arith, ap export_number e))
+    by (Err NotWellFormed) e h = absurd (omega (arith, ap export_number e))
+    by (Err (Faulty f)) e h = absurd (omega (arith, ap export_number e))
+    by (Err NoRoom) e h = absurd (omega (arith, ap export_number e))
 
 module _ {s b z : List ℕ} {t m : ℕ} (w : Written s t b m z) where
   -- "Import gives the values of such a table back": it accepts the table, with all its rows
@@ -89,7 +95,7 @@ module _ {s b z : List ℕ} {t m : ℕ} (w : Written s t b m z) where
   -- and each row gives the values of its record: the UUID, the days, and of each text its length and, in its place, its bytes
   pub shown_back : {k : ℕ} {d : List ℕ} (before : List (List Stored)) (u : List Stored) (others : List (List Stored))
       → w.well_formed.records ≡ before ++ (u ∷ others) → TalcRow (take (256 * m) z) (length before) k d
-      → (k ≡ 0) × (d ≡ in_bytes (row_numbers (shown.Of (values_of (login_of t u))))) × RowIs (take (256 * m) z) (length before) (login_of t u) (values_of (login_of t u))
+      → (k ≡ 0) × (d ≡ in_bytes (row_numbers (Ok (Some (values_of (login_of t u)))))) × RowIs (take (256 * m) z) (length before) (login_of t u) (values_of (login_of t u))
   shown_back before u others e i =
       let f = logins.shown_back w before u others e (as_row i) in
       (i.is_number ∙ ap row_number f.0, i.is_answer ∙ ap (λ (r : Shown). in_bytes (row_numbers r)) f.0, f.1)
@@ -99,9 +105,9 @@ module _ {s b z : List ℕ} {t m : ℕ} (w : Written s t b m z) where
 pub import_says : {table a : List ℕ} {n : ℕ} → TalcImport table n a → (r : Imported) × ImportSays table r × (n ≡ import_number r) × (a ≡ in_bytes (import_numbers r))
 import_says {table} c = (import_of table, rows.import_says (as_import c), c.is_number, c.is_answer)
 
-zero_imported : (r : Imported) → import_number r ≡ 0 → (m : ℕ) × (r ≡ imported.Rows m)
-zero_imported (imported.Rows m) e = (m, refl)
-zero_imported (imported.Refused m) e = absurd (omega arith)
+zero_imported : (r : Imported) → import_number r ≡ 0 → (m : ℕ) × (r ≡ Ok m)
+zero_imported (Ok m) e = (m, refl)
+zero_imported (Err x) e = absurd (omega arith)
 
 module _ {table a : List ℕ} {n : ℕ} (c : TalcImport table n a) where
   -- accepted exactly where there are logins that fit whose table it is
@@ -118,7 +124,7 @@ module _ {table a : List ℕ} {n : ℕ} (c : TalcImport table n a) where
   pub laid_again : n ≡ 0
       → (ls : List Login) × (a ≡ in_bytes (length ls ∷ 0 ∷ [])) × (table_of ls ≡ table)
       × ((before : List Login) (l : Login) (others : List Login) (k : ℕ) (d : List ℕ) → ls ≡ before ++ (l ∷ others) → TalcRow table (length before) k d
-      → (k ≡ 0) × (d ≡ in_bytes (row_numbers (shown.Of (values_of l)))) × RowIs table (length before) l (values_of l))
+      → (k ≡ 0) × (d ≡ in_bytes (row_numbers (Ok (Some (values_of l))))) × RowIs table (length before) l (values_of l))
   laid_again e =
       let m = zero_imported (import_of table) (sym c.is_number ∙ e) in
       let h = rows.laid_again (subst (Imports table) m.1 (as_import c)) in (

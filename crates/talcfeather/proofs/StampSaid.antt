@@ -8,14 +8,15 @@ use mathlib.Core.List.{List}
 use native.Mathlib.Omega.{arith}
 use lib.ListN.{length, get_or, take, drop}
 use Rattle.words.specs.Hex.{Digits, all_digits, hex_number, Spells}
+use Rattle.std.specs.Prelude.{Option, None, Some, Result, Ok, Err}
 use Rattle.words.specs.Numbers.{bytes_low}
 use Rattle.fields.specs.Value.{old_stamp, listed_of, value_of, value_numbers}
 use Rattle.fields.specs.Step.{step_of}
-use Rattle.fields.specs.Walk.{field_by, with_value, walk_by, walk_number, walk_numbers}
+use Rattle.fields.specs.Walk.{Walked, field_by, with_value, walk_by, walk_number, walk_numbers}
 use Rattle.fields.specs.declared.Cursor.{Cursor}
-use Rattle.fields.specs.declared.Stepped.{Stepped}
-use Rattle.fields.specs.declared.Walked.{Walked}
-use Rattle.fields.specs.declared.Walked.TheVariants.{Took}
+use Rattle.fields.specs.declared.Field.{Field}
+use Rattle.fields.specs.declared.Taken.{Taken}
+use Rattle.fields.specs.declared.WalkRefusal.{WalkRefusal}
 use Rattle.fields.specs.declared.value.Value.{Value}
 use Rattle.fields.proofs.Numbers.{walk_numbers_lem}
 use Rattle.fields.proofs.Stamps.{old_exactly, as_stamp, as_listed, stamp_exactly, stamp_else, stamp_before, unless_digits}
@@ -48,9 +49,12 @@ third r k d = by (old_stamp r k (length d)) refl
         ∙ sym (ap (λ (v : Value). get_or (value_numbers v) 2 0) (stamp_before r k d o))
     by false e = ap (λ (v : Value). get_or (value_numbers v) 2 0) (as_listed r k d (λ o. false≢true (sym e ∙ (old_exactly r k d).1 o)))
 
+abbrev valued_as : ℕ → ℕ → ℕ → Value → Field
+valued_as k p n v = record { kind = k; place = p; len = n; value = v }
+
 -- the numbers beside a value's first two do not go by it
 beside : (d : Cursor) (k p n : ℕ) (v w : Value) → get_or (value_numbers v) 2 0 ≡ get_or (value_numbers w) 2 0 → (i : ℕ) → i < 9 → (i ≡ 6 → ⊥) → (i ≡ 7 → ⊥)
-    → get_or (walk_numbers (Took (record { kind = k; place = p; len = n; value = v }) d)) i 0 ≡ get_or (walk_numbers (Took (record { kind = k; place = p; len = n; value = w }) d)) i 0
+    → get_or (walk_numbers (Ok (Some (valued_as k p n v, d)))) i 0 ≡ get_or (walk_numbers (Ok (Some (valued_as k p n w, d)))) i 0
 beside d k p n v w t zero h six seven = refl
 beside d k p n v w t (suc zero) h six seven = refl
 beside d k p n v w t (suc (suc zero)) h six seven = refl
@@ -83,7 +87,7 @@ module _ {body answer : List ℕ} {place n : ℕ} {r : Bool} (c : TalcWalk body 
     )
 
   -- the same walk, where the value does not matter
-  alike : (w : Stepped) → step_of body (cursor place r) ≡ w → with_value value_of body (cursor place r) w ≡ with_value listed_of body (cursor place r) w
+  alike : (w : Result (Option Taken) WalkRefusal) → step_of body (cursor place r) ≡ w → with_value value_of body (cursor place r) w ≡ with_value listed_of body (cursor place r) w
       → walk_by value_of body (cursor place r) ≡ walk_by listed_of body (cursor place r)
   alike w e h = valued value_of body (cursor place r) w e ∙ h ∙ sym (valued listed_of body (cursor place r) w e)
 
@@ -91,14 +95,13 @@ module _ {body answer : List ℕ} {place n : ℕ} {r : Bool} (c : TalcWalk body 
   pub listed_said : ((d : List ℕ) → StampAt body place r d → Digits d → ⊥) → answer ≡ in_bytes (walk_numbers (walk_by listed_of body (cursor place r)))
   listed_said other = c.is_answer ∙ ap (λ w. in_bytes (walk_numbers w)) (by (step_of body (cursor place r)) refl)
     where
-      by : (w : Stepped) → step_of body (cursor place r) ≡ w → walk_by value_of body (cursor place r) ≡ walk_by listed_of body (cursor place r)
-      by (Stepped.Took k m next) e =
-          let d = take m (drop (place + 5) body) in
-          let v : value_of r k d ≡ listed_of r k d = unless_digits r k d (λ o. other d (record { kind = k; field = field_at k m next e; old = o })) in
-          alike _ e (ap (λ (x : Value). Took (record { kind = k; place = place; len = m; value = x }) next) v)
-      by Stepped.Finished e = alike _ e refl
-      by Stepped.Misplaced e = alike _ e refl
-      by Stepped.Broken e = alike _ e refl
+      by : (w : Result (Option Taken) WalkRefusal) → step_of body (cursor place r) ≡ w → walk_by value_of body (cursor place r) ≡ walk_by listed_of body (cursor place r)
+      by (Ok (Some t)) e =
+          let d = take t.len (drop (place + 5) body) in
+          let v : value_of r t.kind d ≡ listed_of r t.kind d = unless_digits r t.kind d (λ o. other d (record { kind = t.kind; field = field_at t e; old = o })) in
+          alike _ e (ap (λ (x : Value). Ok (Some (valued_as t.kind place t.len x, t.next))) v)
+      by (Ok None) e = alike _ e refl
+      by (Err x) e = alike _ e refl
 
   -- Q2.b "acceptance and refusals aren't"
   pub refusal_said : n ≡ walk_number (walk_by listed_of body (cursor place r))
@@ -109,15 +112,14 @@ module _ {body answer : List ℕ} {place n : ℕ} {r : Bool} (c : TalcWalk body 
       → take 8 (drop (8 * i) answer) ≡ take 8 (drop (8 * i) (in_bytes (walk_numbers (walk_by listed_of body (cursor place r)))))
   rest_said i h six seven = ap (λ (l : List ℕ). take 8 (drop (8 * i) l)) c.is_answer ∙ by (step_of body (cursor place r)) refl
     where
-      by : (w : Stepped) → step_of body (cursor place r) ≡ w → number i (walk_by value_of body (cursor place r)) ≡ number i (walk_by listed_of body (cursor place r))
-      by (Stepped.Took k m next) e =
-          let a = field_by value_of body (cursor place r) k m in
-          let b = field_by listed_of body (cursor place r) k m in
+      by : (w : Result (Option Taken) WalkRefusal) → step_of body (cursor place r) ≡ w → number i (walk_by value_of body (cursor place r)) ≡ number i (walk_by listed_of body (cursor place r))
+      by (Ok (Some t)) e =
+          let a = field_by value_of body (cursor place r) t.kind t.len in
+          let b = field_by listed_of body (cursor place r) t.kind t.len in
           ap (number i) (valued value_of body (cursor place r) _ e)
-          ∙ number_at (walk_numbers (Took a next)) i (omega (arith, nine a next))
-          ∙ ap (bytes_low 8) (beside next k place m a.value b.value (third r k (take m (drop (place + 5) body))) i h six seven)
-          ∙ sym (number_at (walk_numbers (Took b next)) i (omega (arith, nine b next)))
+          ∙ number_at (walk_numbers (Ok (Some (a, t.next)))) i (omega (arith, nine a t.next))
+          ∙ ap (bytes_low 8) (beside t.next t.kind place t.len a.value b.value (third r t.kind (take t.len (drop (place + 5) body))) i h six seven)
+          ∙ sym (number_at (walk_numbers (Ok (Some (b, t.next)))) i (omega (arith, nine b t.next)))
           ∙ sym (ap (number i) (valued listed_of body (cursor place r) _ e))
-      by Stepped.Finished e = ap (number i) (alike _ e refl)
-      by Stepped.Misplaced e = ap (number i) (alike _ e refl)
-      by Stepped.Broken e = ap (number i) (alike _ e refl)
+      by (Ok None) e = ap (number i) (alike _ e refl)
+      by (Err x) e = ap (number i) (alike _ e refl)

@@ -7,6 +7,7 @@ use mathlib.Core.Bool.{Bool}
 use mathlib.Core.List.{List}
 use native.Mathlib.Omega.{arith}
 use lib.ListN.{length, take, drop, replicate}
+use Rattle.std.specs.Prelude.{Option, None, Some, Result, Ok, Err}
 use Rattle.words.specs.Numbers.{number_low}
 use Rattle.words.proofs.NumberLaws.{number_bytes}
 use Rattle.text.specs.Grammar.{IsText}
@@ -14,7 +15,8 @@ use Rattle.text.specs.GoesWrong.{GoesWrongAt}
 use Rattle.fields.specs.Value.{value_of}
 use Rattle.fields.specs.Step.{step_of}
 use Rattle.fields.specs.Walk.{with_value, walk_numbers}
-use Rattle.fields.specs.declared.Stepped.{Stepped}
+use Rattle.fields.specs.declared.Taken.{Taken}
+use Rattle.fields.specs.declared.WalkRefusal.{WalkRefusal}
 use Rattle.fields.specs.declared.value.Value.TheVariants as Value
 use Rattle.fields.proofs.Valued.{valued}
 use Rattle.fields.proofs.Texts.{text_exactly, bad_exactly, bad_in}
@@ -47,7 +49,7 @@ module _ {body answer : List ℕ} {place n : ℕ} {r : Bool} (c : TalcWalk body 
       λ w. told_bad t.field m ((bad_exactly r t.kind d t.shape t.some m).1 w),
     )
 
-  nothing : (w : Stepped) → step_of body (cursor place r) ≡ w → walk_numbers (with_value value_of body (cursor place r) w) ≡ replicate 9 0 → told_value_kind answer ≡ 7 → ⊥
+  nothing : (w : Result (Option Taken) WalkRefusal) → step_of body (cursor place r) ≡ w → walk_numbers (with_value value_of body (cursor place r) w) ≡ replicate 9 0 → told_value_kind answer ≡ 7 → ⊥
   nothing w e zeros h =
       let said = c.is_answer ∙ ap (λ x. in_bytes (walk_numbers x)) (valued value_of body (cursor place r) w e) ∙ ap in_bytes zeros in
       let z : told_value_kind answer ≡ 0 = ap (λ (l : List ℕ). told_value_kind l) said ∙ ap number_low (number_at (replicate 9 0) 6 (omega arith)) ∙ number_bytes 8 0 in
@@ -57,15 +59,14 @@ module _ {body answer : List ℕ} {place n : ℕ} {r : Bool} (c : TalcWalk body 
   pub wrong_within : told_value_kind answer ≡ 7 → (d : List ℕ) × TextAt body place r d × (told_value answer < length d)
   wrong_within h = by (step_of body (cursor place r)) refl
     where
-      by : (w : Stepped) → step_of body (cursor place r) ≡ w → (d : List ℕ) × TextAt body place r d × (told_value answer < length d)
-      by (Stepped.Took k m next) e =
-          let f = field_at k m next e in
-          let d = take m (drop (place + 5) body) in
-          let b = bad_in r k d (told_value answer) (bad_told f h) in
-          (d, record { kind = k; field = f; shape = b.shape; some = λ z. none b.less z }, b.less)
+      by : (w : Result (Option Taken) WalkRefusal) → step_of body (cursor place r) ≡ w → (d : List ℕ) × TextAt body place r d × (told_value answer < length d)
+      by (Ok (Some t)) e =
+          let f = field_at t e in
+          let d = take t.len (drop (place + 5) body) in
+          let b = bad_in r t.kind d (told_value answer) (bad_told f h) in
+          (d, record { kind = t.kind; field = f; shape = b.shape; some = λ z. none b.less z }, b.less)
         where
           none : {i j : ℕ} → i < j → j ≡ 0 → ⊥
           none l z = omega arith
-      by Stepped.Finished e = absurd (nothing Stepped.Finished e refl h)
-      by Stepped.Misplaced e = absurd (nothing Stepped.Misplaced e refl h)
-      by Stepped.Broken e = absurd (nothing Stepped.Broken e refl h)
+      by (Ok None) e = absurd (nothing (Ok None) e refl h)
+      by (Err x) e = absurd (nothing (Err x) e refl h)

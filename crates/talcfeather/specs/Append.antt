@@ -1,8 +1,7 @@
 -- talc_append: its answer is one number, the next place.
 use Rattle.std.specs.Prelude.{ℕ, ◌≡◌, List}
 use Rattle.fields.specs.Stored.{Stored}
-use Rattle.fields.specs.Append.{append_of, buffer_after, append_number, append_values}
-use Rattle.fields.specs.declared.store.Appended.{Appended}
+use Rattle.fields.specs.Append.{Appended, append_of, buffer_after, append_number, append_values}
 use Rattle.talcfeather.specs.Numbers.{with_zeros, in_bytes}
 
 -- zero where refused

@@ -4,11 +4,17 @@ use Rattle.words.specs.Numbers.{Bytes}
 use Rattle.words.specs.Slices.{zeros}
 use Rattle.file.specs.Reading.{Report, reading_of, workspace_of}
 use Rattle.safe.specs.V3.{v3_edition}
+use Rattle.safe.specs.Answers.{header_count, record_count}
+use Rattle.safe.specs.declared.Reading.{Reading}
 use Rattle.talcfeather.specs.Numbers.{in_bytes}
 
 -- header fields, records, compressions and blocks
 abbrev pub read_numbers : Report → List ℕ
 read_numbers r = r.headers ∷ r.records ∷ r.compressions ∷ r.blocks ∷ []
+
+-- the same of an answer
+abbrev pub numbers_given : Reading → List ℕ
+numbers_given r = header_count r.outcome ∷ record_count r.outcome ∷ r.compressions ∷ r.blocks ∷ []
 
 unfoldable pub answer_bytes : Report → List ℕ
 answer_bytes r = r.key_k ++ (r.key_l ++ in_bytes (read_numbers r))

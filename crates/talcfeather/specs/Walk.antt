@@ -1,12 +1,11 @@
 -- talc_walk: its answer is nine numbers.
-use Rattle.std.specs.Prelude.{ℕ, ◌^◌, ◌<◌, ◌≡◌, Bool, cond, List, length, take, drop}
+use Rattle.std.specs.Prelude.{ℕ, ◌^◌, ◌<◌, ◌≡◌, Bool, cond, List, length, take, drop, Some, Ok}
 use Rattle.words.specs.Numbers.{number_low}
 use Rattle.fields.specs.Value.{header_shape, record_shape}
 use Rattle.fields.specs.Stamp.{OldStamp}
 use Rattle.fields.specs.Step.{data_at, step_of}
 use Rattle.fields.specs.Walk.{walk_of, walk_number, walk_numbers}
 use Rattle.fields.specs.declared.Cursor.{Cursor}
-use Rattle.fields.specs.declared.Stepped.TheVariants.{Took}
 use Rattle.fields.specs.declared.value.Shape.TheVariants as Shape
 use Rattle.talcfeather.specs.Numbers.{in_bytes}
 
@@ -23,7 +22,7 @@ pub record TalcWalk (body : List ℕ) (place : ℕ) (r : Bool) (number : ℕ) (a
 -- at that place the walk takes a field of type k, with the data d
 pub record FieldAt (body : List ℕ) (place : ℕ) (r : Bool) (k : ℕ) (d : List ℕ) : Type 0 where
   pub next : Cursor
-  pub taken : step_of body (cursor place r) ≡ Took k (length d) next
+  pub taken : step_of body (cursor place r) ≡ Ok (Some (record { kind = k; len = length d; next = next }))
   pub content : d ≡ data_at body place
 
 -- it is of a Text type, and its data are not empty

@@ -1,26 +1,24 @@
 // Whether a body is well formed, and its counts.
-ghost use Rattle.std.specs.Prelude.{◌≡◌};
 ghost use Rattle.body.specs.Decision.{judge_number};
 ghost use Rattle.talcfeather.specs.Judge.{judge_numbers, TalcJudge};
 
-use super::numbers::store;
-use body::Judged;
+use super::answer::{Answer, number, told};
+use body::{Counts, NotWellFormed};
 
-fn judge_numbers(j: Judged) -> [u64; 2]
-    ensures { result ≡ judge_numbers j }
-{
-    match j {
-        Judged::Counts(headers, records) => [headers as u64, records as u64],
-        Judged::NotWellFormed => [0, 0],
+impl Answer<2> for Result<Counts, NotWellFormed> {
+    ghost number_of = { judge_number };
+
+    ghost numbers_of = { judge_numbers };
+
+    fn number(&self) -> u32 {
+        number(self)
     }
-}
 
-fn judge_number(j: Judged) -> u32
-    ensures { result ≡ judge_number j }
-{
-    match j {
-        Judged::Counts(_, _) => 0,
-        Judged::NotWellFormed => 9,
+    fn numbers(&self) -> [u64; 2] {
+        match *self {
+            Ok(Counts { headers, records }) => [headers as u64, records as u64],
+            Err(NotWellFormed) => [0, 0],
+        }
     }
 }
 
@@ -28,8 +26,5 @@ fn judge_number(j: Judged) -> u32
 pub extern "C" fn talc_judge(body: &[u8], answer: &mut [u8; 16]) -> u32
     ensures { TalcJudge body.now result answer.new }
 {
-    let j = body::judge(body);
-    let numbers = judge_numbers(j);
-    store(&numbers, answer);
-    judge_number(j)
+    told(&body::judge(body), answer)
 }

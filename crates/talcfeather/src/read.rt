@@ -1,45 +1,51 @@
 // A whole file read.
-ghost use Rattle.std.specs.Prelude.{◌≡◌, [], ◌∷◌, ◌++◌, length};
-ghost use Rattle.safe.specs.Answers.{outcome_number, header_count, record_count};
-ghost use Rattle.talcfeather.specs.Numbers.{in_bytes};
-ghost use Rattle.talcfeather.specs.Read.{TalcRead};
+ghost use Rattle.std.specs.Prelude.{◌≡◌, ◌++◌, length};
+ghost use Rattle.safe.specs.Answers.{k_given, l_given};
+ghost use Rattle.safe.specs.Calls.{number_of};
+ghost use Rattle.talcfeather.specs.Read.{numbers_given, TalcRead};
 
-use super::numbers::store;
-use super::refusal::number;
-use safe::Outcome;
-use words::slices::copy;
+use super::answer::{Answer, number, told};
+use safe::{Opened, Reading, Refusal};
 
-fn outcome_number(o: Outcome) -> u32
-    ensures { result ≡ outcome_number o }
-{
-    match o {
-        Outcome::Accepted(_, _) => 0,
-        Outcome::Refused(x) => number(x),
+impl Answer<4> for Reading {
+    ghost number_of = { number_of };
+
+    ghost numbers_of = { numbers_given };
+
+    fn number(&self) -> u32 {
+        number(&self.outcome)
+    }
+
+    fn numbers(&self) -> [u64; 4] {
+        match &self.outcome {
+            Ok(opened) => [
+                opened.counts.headers as u64,
+                opened.counts.records as u64,
+                self.compressions,
+                self.blocks,
+            ],
+            Err(_) => [0, 0, self.compressions, self.blocks],
+        }
     }
 }
 
-fn read_numbers(o: Outcome, compressions: u64, blocks: u64) -> [u64; 4]
-    ensures { result ≡ header_count o ∷ record_count o ∷ compressions ∷ blocks ∷ [] }
+fn lay(k: &[u8; 32], l: &[u8; 32], answer: &mut [u8])
+    requires { length answer.old ≡ 64 }
+    ensures { answer.new ≡ k.now ++ l.now }
 {
-    match o {
-        Outcome::Accepted(headers, records) => [
-            headers as u64,
-            records as u64,
-            compressions,
-            blocks,
-        ],
-        Outcome::Refused(_) => [0, 0, compressions, blocks],
-    }
+    answer[..32].copy_from_slice(k);
+    answer[32..].copy_from_slice(l);
 }
 
-// K, L and the numbers, each in its part of the answer.
-fn lay(k: &[u8], l: &[u8], numbers: &[u64], answer: &mut [u8])
-    requires { (length k.now ≡ 32) × (length l.now ≡ 32) × (length numbers.now ≡ 4) × (length answer.old ≡ 96) }
-    ensures { answer.new ≡ k.now ++ (l.now ++ in_bytes numbers.now) }
+// K and L, or zeros.
+fn lay_keys(outcome: &Result<Opened, Refusal>, answer: &mut [u8])
+    requires { length answer.old ≡ 64 }
+    ensures { answer.new ≡ k_given outcome.now ++ l_given outcome.now }
 {
-    copy(&mut answer[0..32], k);
-    copy(&mut answer[32..64], l);
-    store(numbers, &mut answer[64..96]);
+    match outcome {
+        Ok(opened) => lay(&opened.keys.k, &opened.keys.l, answer),
+        Err(_) => answer.fill(0),
+    }
 }
 
 #[unsafe(no_mangle)]
@@ -53,10 +59,6 @@ pub extern "C" fn talc_read(
     ensures { TalcRead file.now passphrase.now ceiling workspace.old result workspace.new answer.new }
 {
     let r = safe::read(file, passphrase, ceiling, workspace);
-    let o = r.outcome;
-    let k = r.k;
-    let l = r.l;
-    let numbers = read_numbers(o, r.compressions, r.blocks);
-    lay(&k, &l, &numbers, answer);
-    outcome_number(o)
+    lay_keys(&r.outcome, &mut answer[..64]);
+    told(&r, &mut answer[64..])
 }

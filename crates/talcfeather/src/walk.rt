@@ -1,8 +1,23 @@
 // One field of a body.
+ghost use Rattle.fields.specs.Walk.{walk_number, walk_numbers};
 ghost use Rattle.talcfeather.specs.Walk.{TalcWalk};
 
-use super::numbers::store;
-use fields::{Cursor, answers};
+use super::answer::{Answer, number, told};
+use fields::{Cursor, Walked, answers};
+
+impl Answer<9> for Walked {
+    ghost number_of = { walk_number };
+
+    ghost numbers_of = { walk_numbers };
+
+    fn number(&self) -> u32 {
+        number(self)
+    }
+
+    fn numbers(&self) -> [u64; 9] {
+        answers::walk_numbers(*self)
+    }
+}
 
 #[unsafe(no_mangle)]
 pub extern "C" fn talc_walk(
@@ -13,12 +28,5 @@ pub extern "C" fn talc_walk(
 ) -> u32
     ensures { TalcWalk body.now place in_record result answer.new }
 {
-    let c = Cursor {
-        place: place,
-        in_record: in_record,
-    };
-    let w = fields::walk(body, c);
-    let numbers = answers::walk_numbers(w);
-    store(&numbers, answer);
-    answers::walk_number(w)
+    told(&fields::walk(body, Cursor { place, in_record }), answer)
 }

@@ -1,19 +1,7 @@
 // A whole file written.
-ghost use Rattle.std.specs.Prelude.{◌≡◌};
-ghost use Rattle.safe.specs.Answers.{written_number};
 ghost use Rattle.talcfeather.specs.Write.{TalcWrite};
 
-use super::refusal::number;
-use safe::Written;
-
-fn write_number(w: Written) -> u32
-    ensures { result ≡ written_number w }
-{
-    match w {
-        Written::Done => 0,
-        Written::Refused(x) => number(x),
-    }
-}
+use super::answer::number;
 
 #[unsafe(no_mangle)]
 pub extern "C" fn talc_write(
@@ -30,5 +18,5 @@ pub extern "C" fn talc_write(
         output.old result output.new }
 {
     let w = safe::write(passphrase, salt, iter, k, l, iv, body, output);
-    write_number(w)
+    number(&w)
 }

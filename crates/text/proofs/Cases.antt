@@ -6,8 +6,7 @@ use lib.ListN.{get_or, drop}
 use Rattle.text.specs.Grammar.{IsText}
 use Rattle.text.specs.GoesWrong.{GoesWrongAt}
 use Rattle.text.specs.Decision.{ends_whole, greatest, goes_wrong_of}
-use Rattle.text.specs.declared.Wrong.{Wrong}
-use Rattle.text.specs.declared.Wrong.TheVariants.{Nowhere, At}
+use Rattle.std.specs.Prelude.{Option, None, Some}
 use Rattle.text.proofs.GoesWrong.{nowhere_exactly, number_exactly}
 
 abbrev pub texts : List (List ℕ)
@@ -85,13 +84,13 @@ Each P [] = Unit
 Each P (a ∷ l) = P a × Each P l
 
 -- told of each by its answer
-each : {A : Type 0} (f g : A → Wrong) (P : A → Type 0) → ((a : A) → f a ≡ g a → P a) → (l : List A) → map f l ≡ map g l → Each P l
+each : {A : Type 0} (f g : A → Option ℕ) (P : A → Type 0) → ((a : A) → f a ≡ g a → P a) → (l : List A) → map f l ≡ map g l → Each P l
 each f g P h [] e = tt
-each f g P h (a ∷ l) e = (h a (ap (λ (l : List Wrong). get_or l 0 Nowhere) e), each f g P h l (ap (λ (l : List Wrong). drop 1 l) e))
+each f g P h (a ∷ l) e = (h a (ap (λ (l : List (Option ℕ)). get_or l 0 None) e), each f g P h l (ap (λ (l : List (Option ℕ)). drop 1 l) e))
 
 pub cases : Each IsText texts × Each (λ o. GoesWrongAt o.0 o.1) others
 unfolding ends_whole greatest goes_wrong_of
 cases = (
-  each goes_wrong_of (λ s. Nowhere) IsText (λ s. (nowhere_exactly s).0) texts refl,
-  each (λ o. goes_wrong_of o.0) (λ o. At o.1) (λ o. GoesWrongAt o.0 o.1) (λ o. (number_exactly o.0 o.1).0) others refl,
+  each goes_wrong_of (λ s. None) IsText (λ s. (nowhere_exactly s).0) texts refl,
+  each (λ o. goes_wrong_of o.0) (λ o. Some o.1) (λ o. GoesWrongAt o.0 o.1) (λ o. (number_exactly o.0 o.1).0) others refl,
 )

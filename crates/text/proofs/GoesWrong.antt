@@ -12,8 +12,8 @@ use lib.Seq.{take-length}
 use borrow.Author.Tests.{ltb-true, ltb-false, lt-ltb, le-ltb}
 use Rattle.text.specs.Grammar.{WellFormedUtf8, IsText}
 use Rattle.text.specs.GoesWrong.{LongestStart, OnlyZero, Applies, by_start, by_mark, by_zero, Smallest, GoesWrongAt}
-use Rattle.text.specs.Decision.{ends_whole, utf8_of, marked_of, ends_in_zero, formed_start, before_final_zero, smaller_of, right_of, goes_wrong_of}
-use Rattle.text.specs.declared.Wrong.TheVariants.{Nowhere, At}
+use Rattle.text.specs.Decision.{ends_whole, utf8_of, marked_of, ends_in_zero, formed_start, before_final_zero, right_of, goes_wrong_of}
+use Rattle.std.specs.Prelude.{None, Some}
 use Rattle.text.proofs.Grammar.{grammar}
 use Rattle.text.proofs.Greatest.{greatest_within, greatest_holds, greatest_most}
 use Rattle.text.proofs.Ends.{marked_in, zero_in, unmarked, unended}
@@ -123,29 +123,29 @@ module _ (s : List ℕ) where
     less : n < length s
     is : right_of s ≡ n
 
-  tested : (n : ℕ) → goes_wrong_of s ≡ At n → Tested n
+  tested : (n : ℕ) → goes_wrong_of s ≡ Some n → Tested n
   unfolding goes_wrong_of
   tested n h = by (ltb (right_of s) (length s)) refl h
     where
-      by : (b : Bool) → ltb (right_of s) (length s) ≡ b → cond b (At (right_of s)) Nowhere ≡ At n → Tested n
+      by : (b : Bool) → ltb (right_of s) (length s) ≡ b → cond b (Some (right_of s)) None ≡ Some n → Tested n
       by true e h = let i : right_of s ≡ n = cc in let l = ltb-true (right_of s) (length s) e in record { less = omega arith; is = i }
       by false e h = absurd (let z : ◌≡◌ {A = ℕ} 0 1 = cc in omega arith)
 
-  pub number_less : (n : ℕ) → goes_wrong_of s ≡ At n → n < length s
+  pub number_less : (n : ℕ) → goes_wrong_of s ≡ Some n → n < length s
   number_less n h = (tested n h).less
 
-  pub nowhere_exactly : (goes_wrong_of s ≡ Nowhere) ↔ IsText s
+  pub nowhere_exactly : (goes_wrong_of s ≡ None) ↔ IsText s
   unfolding goes_wrong_of
   nowhere_exactly = (
     λ h. right_text s (right_of s) (right_is s) (by (ltb (right_of s) (length s)) refl h),
     λ t. let e = text_right s (right_of s) (right_is s) t in rw (le-ltb (right_of s) (length s) (omega arith)),
   )
     where
-      by : (b : Bool) → ltb (right_of s) (length s) ≡ b → cond b (At (right_of s)) Nowhere ≡ Nowhere → length s ≤ right_of s
+      by : (b : Bool) → ltb (right_of s) (length s) ≡ b → cond b (Some (right_of s)) None ≡ None → length s ≤ right_of s
       by true e h = absurd (let z : ◌≡◌ {A = ℕ} 0 1 = cc in omega arith)
       by false e h = ltb-false (right_of s) (length s) e
 
-  pub number_exactly : (n : ℕ) → (goes_wrong_of s ≡ At n) ↔ GoesWrongAt s n
+  pub number_exactly : (n : ℕ) → (goes_wrong_of s ≡ Some n) ↔ GoesWrongAt s n
   unfolding goes_wrong_of
   number_exactly n = (
     λ h.
@@ -161,21 +161,3 @@ module _ (s : List ℕ) where
     where
       below : (length s ≤ right_of s → ⊥) → right_of s < length s
       below k = omega arith
-
--- ---- the answer, by the tests of the code
-module _ (s : List ℕ) where
-  pub mark_told : marked_of s ≡ true → At 0 ≡ goes_wrong_of s
-  unfolding goes_wrong_of
-  mark_told h = rw (h, lt-ltb 0 (length s) (omega (arith, ap length (marked_in s h).1)))
-
-  module _ (h : marked_of s ≡ false) (n : ℕ) (e : n ≡ smaller_of (formed_start s) (before_final_zero s)) where
-    number : right_of s ≡ n
-    number = rw h (sym e)
-
-    pub number_told : n < length s → At n ≡ goes_wrong_of s
-    unfolding goes_wrong_of
-    number_told l = rw (number, lt-ltb n (length s) l)
-
-    pub none_told : length s ≤ n → Nowhere ≡ goes_wrong_of s
-    unfolding goes_wrong_of
-    none_told l = rw (number, le-ltb n (length s) l)

@@ -1,4 +1,3 @@
-pub mod Tests
 mod Bytewise
 pub mod Grammar
 mod Ends

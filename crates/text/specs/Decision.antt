@@ -1,10 +1,8 @@
--- The decision that the code makes: a run over the bytes, and two looks at the ends. It is `Nowhere` exactly for the texts of `Grammar.antt`, and else gives the number of
+-- The decision that the code makes: a run over the bytes, and two looks at the ends. It is `None` exactly for the texts of `Grammar.antt`, and else gives the number of
 -- `GoesWrong.antt` (both in proofs/GoesWrong.antt).
-use Rattle.std.specs.Prelude.{ℕ, zero, suc, ◌-◌, List, [], ◌∷◌, Bool, true, false, cond, ltb, leb, eqb, length, take, get_or}
+use Rattle.std.specs.Prelude.{ℕ, zero, suc, ◌-◌, List, [], ◌∷◌, Bool, true, false, cond, ltb, leb, eqb, length, take, get_or, Option, None, Some}
 use Rattle.text.specs.declared.Utf8.{Utf8}
 use Rattle.text.specs.declared.Utf8.TheVariants.{Start, More, Bad}
-use Rattle.text.specs.declared.Wrong.{Wrong}
-use Rattle.text.specs.declared.Wrong.TheVariants.{Nowhere, At}
 
 -- what a first byte lets follow
 abbrev pub first_of : ℕ → Utf8
@@ -71,5 +69,5 @@ smaller_of a b = cond (ltb a b) a b
 abbrev pub right_of : List ℕ → ℕ
 right_of s = cond (marked_of s) 0 (smaller_of (formed_start s) (before_final_zero s))
 
-unfoldable pub goes_wrong_of : List ℕ → Wrong
-goes_wrong_of s = cond (ltb (right_of s) (length s)) (At (right_of s)) Nowhere
+unfoldable pub goes_wrong_of : List ℕ → Option ℕ
+goes_wrong_of s = cond (ltb (right_of s) (length s)) (Some (right_of s)) None

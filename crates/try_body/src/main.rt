@@ -1,175 +1,147 @@
 // Bodies at each side of every line that document 01 draws, judged and searched; each case on a line with its answer.
 #![tactic(auto)]
 
-use body::{Judged, Sought};
-use fields::Appended;
+use body::{Counts, Place};
+use fields::Uuid;
 use std::io;
 
-fn say(rt: &impl Print, s: &[u8]) -> io::Result<()> {
-    rt.write_all(s)
+// A body, in the first bytes of a buffer: there is no heap.
+#[derive(Clone, Copy)]
+struct Built {
+    buffer: [u8; 512],
+    len: usize,
 }
 
-fn number(rt: &impl Print, n: usize) -> io::Result<()> {
-    print!(rt; "{n}")
-}
-
-fn wide(n: u8) -> usize {
-    n as usize
-}
-
-// Appends a field with so much of the data, and as much of the fill as that needs; where it is refused, the place stays.
-fn filled(buf: &mut [u8], place: usize, kind: u8, data: &[u8], len: usize, fill: &[u8]) -> usize {
-    if data.len() < len {
-        return place;
-    }
-    let m = fields::fill_for(len);
-    if fill.len() < m {
-        return place;
-    }
-    let Appended::Next(next) = fields::append(buf, place, kind, &data[..len], &fill[..m]) else {
+// Appends a field with so many bytes of data, the second of them as given, the others 61; where it is refused, the place stays.
+fn put(buffer: &mut [u8], place: usize, kind: u8, len: u8, second: u8) -> usize {
+    let mut letters = [0x61u8; 32];
+    letters[1] = second;
+    let len = usize::from(len);
+    let Some(content) = letters.get(..len) else {
         return place;
     };
-    next
+    let fill = &b"fill fill fill f"[..fields::fill_for(len)];
+    fields::append(buffer, place, kind, content, fill).unwrap_or(place)
 }
 
-// A field with len bytes of data, the second of them as given, the others 61.
-fn put(buf: &mut [u8], place: usize, kind: u8, len: usize, second: u8) -> usize {
-    let mut data = [0x61u8; 32];
-    data[1] = second;
-    filled(buf, place, kind, &data, len, b"fill fill fill f")
-}
-
-// Three bytes for each field: its type, the length of its data, the second byte of its data.
-fn build(buf: &mut [u8], script: &[u8]) -> usize {
-    let mut place: usize = 0;
-    let mut i: usize = 0;
-    while i + 2 < script.len() {
-        let len = wide(script[i + 1]);
-        place = put(buf, place, script[i], len, script[i + 2]);
-        i += 3;
+impl Built {
+    // Three bytes for each field: its type, the length of its data, the second byte of its data.
+    fn by(script: &[u8]) -> Built {
+        let mut buffer = [0u8; 512];
+        let mut len = 0;
+        for [kind, size, second] in script.as_chunks::<3>().0 {
+            len = put(&mut buffer, len, *kind, *size, *second);
+        }
+        Built { buffer, len }
     }
-    place
+
+    // The same with one byte changed.
+    fn changed(mut self, at: usize, to: u8) -> Built {
+        if let Some(byte) = self.buffer.get_mut(at) {
+            *byte = to;
+        }
+        self
+    }
+
+    // The same cut to so many bytes.
+    fn cut(self, len: usize) -> Built {
+        Built { len, ..self }
+    }
+
+    fn body(&self) -> &[u8] {
+        self.buffer.get(..self.len).unwrap_or(&[])
+    }
 }
 
 fn judged(rt: &impl Print, body: &[u8]) -> io::Result<()> {
     match body::judge(body) {
-        Judged::Counts(headers, records) => {
-            number(rt, headers)?;
-            say(rt, b" header fields, ")?;
-            number(rt, records)?;
-            say(rt, b" records\n")
+        Ok(Counts { headers, records }) => {
+            println!(rt; "{headers} header fields, {records} records")
         }
-        Judged::NotWellFormed => say(rt, b"9\n"),
+        Err(refusal) => println!(rt; "{}", u32::from(refusal)),
     }
 }
 
-// Judges the first n bytes.
-fn first(rt: &impl Print, buf: &[u8], n: usize) -> io::Result<()> {
-    if buf.len() < n {
-        return Ok(());
+fn case(rt: &impl Print, name: &str, built: &Built) -> io::Result<()> {
+    print!(rt; "{name}: ")?;
+    judged(rt, built.body())
+}
+
+// A script for each name.
+fn cases(rt: &impl Print, scripts: &[(&str, &[u8])]) -> io::Result<()> {
+    for (name, script) in scripts {
+        case(rt, name, &Built::by(script))?;
     }
-    judged(rt, &buf[..n])
-}
-
-fn case(rt: &impl Print, name: &[u8], script: &[u8]) -> io::Result<()> {
-    let mut buf = [0u8; 512];
-    say(rt, name)?;
-    say(rt, b": ")?;
-    let n = build(&mut buf, script);
-    first(rt, &buf, n)
-}
-
-fn set(buf: &mut [u8], at: usize, x: u8) {
-    if at < buf.len() {
-        buf[at] = x;
-    }
-}
-
-// The same with one byte changed.
-fn changed(rt: &impl Print, name: &[u8], script: &[u8], at: usize, x: u8) -> io::Result<()> {
-    let mut buf = [0u8; 512];
-    say(rt, name)?;
-    say(rt, b": ")?;
-    let n = build(&mut buf, script);
-    set(&mut buf, at, x);
-    first(rt, &buf, n)
-}
-
-// The same cut to n bytes.
-fn cut(rt: &impl Print, name: &[u8], script: &[u8], n: usize) -> io::Result<()> {
-    let mut buf = [0u8; 512];
-    say(rt, name)?;
-    say(rt, b": ")?;
-    build(&mut buf, script);
-    first(rt, &buf, n)
+    Ok(())
 }
 
 fn headers(rt: &impl Print) -> io::Result<()> {
-    say(rt, b"-- header\n")?;
-    case(rt, b"Version, END", b"\x00\x02\x03\xff\x00\x00")?;
-    case(rt, b"nothing", b"")?;
-    case(rt, b"Version without END", b"\x00\x02\x03")?;
-    case(rt, b"END alone", b"\xff\x00\x00")?;
-    case(
+    println!(rt; "-- header")?;
+    cases(
         rt,
-        b"Version not first",
-        b"\x02\x02\x03\x00\x02\x03\xff\x00\x00",
-    )?;
-    case(rt, b"Version of 1 byte", b"\x00\x01\x03\xff\x00\x00")?;
-    case(rt, b"Version of 3 bytes", b"\x00\x03\x03\xff\x00\x00")?;
-    case(rt, b"Version, second byte 04", b"\x00\x02\x04\xff\x00\x00")
+        &[
+            ("Version, END", b"\x00\x02\x03\xff\x00\x00"),
+            ("nothing", b""),
+            ("Version without END", b"\x00\x02\x03"),
+            ("END alone", b"\xff\x00\x00"),
+            ("Version not first", b"\x02\x02\x03\x00\x02\x03\xff\x00\x00"),
+            ("Version of 1 byte", b"\x00\x01\x03\xff\x00\x00"),
+            ("Version of 3 bytes", b"\x00\x03\x03\xff\x00\x00"),
+            ("Version, second byte 04", b"\x00\x02\x04\xff\x00\x00"),
+        ],
+    )
 }
 
 fn bytes(rt: &impl Print) -> io::Result<()> {
-    say(rt, b"-- bytes\n")?;
-    cut(
+    println!(rt; "-- bytes")?;
+    case(
         rt,
-        b"Version, END, last byte cut",
-        b"\x00\x02\x03\xff\x00\x00",
-        31,
+        "Version, END, last byte cut",
+        &Built::by(b"\x00\x02\x03\xff\x00\x00").cut(31),
     )?;
-    cut(
+    case(
         rt,
-        b"Version, END, one byte more",
-        b"\x00\x02\x03\xff\x00\x00",
-        33,
+        "Version, END, one byte more",
+        &Built::by(b"\x00\x02\x03\xff\x00\x00").cut(33),
     )?;
-    changed(
+    case(
         rt,
-        b"Version, END, fill changed",
-        b"\x00\x02\x03\xff\x00\x00",
-        31,
-        0x00,
+        "Version, END, fill changed",
+        &Built::by(b"\x00\x02\x03\xff\x00\x00").changed(31, 0x00),
     )?;
-    changed(rt, b"END with data", b"\x00\x02\x03\xff\x00\x00", 16, 0x01)
+    case(
+        rt,
+        "END with data",
+        &Built::by(b"\x00\x02\x03\xff\x00\x00").changed(16, 0x01),
+    )
 }
 
 fn more_bytes(rt: &impl Print) -> io::Result<()> {
-    changed(
+    case(
         rt,
-        b"END of a record with data",
-        b"\x00\x02\x03\xff\x00\x00\x01\x10\x00\x03\x01\x00\x06\x01\x00\xff\x00\x00",
-        96,
-        0x01,
+        "END of a record with data",
+        &Built::by(
+            b"\x00\x02\x03\xff\x00\x00\x01\x10\x00\x03\x01\x00\x06\x01\x00\xff\x00\x00",
+        ).changed(96, 0x01),
     )?;
-    changed(
+    case(
         rt,
-        b"Title of one block, length 11",
-        b"\x00\x02\x03\xff\x00\x00\x01\x10\x00\x03\x01\x00\x06\x01\x00\xff\x00\x00",
-        64,
-        0x0b,
+        "Title of one block, length 11",
+        &Built::by(
+            b"\x00\x02\x03\xff\x00\x00\x01\x10\x00\x03\x01\x00\x06\x01\x00\xff\x00\x00",
+        ).changed(64, 0x0b),
     )?;
-    changed(
+    case(
         rt,
-        b"Title of one block, length 12",
-        b"\x00\x02\x03\xff\x00\x00\x01\x10\x00\x03\x01\x00\x06\x01\x00\xff\x00\x00",
-        64,
-        0x0c,
+        "Title of one block, length 12",
+        &Built::by(
+            b"\x00\x02\x03\xff\x00\x00\x01\x10\x00\x03\x01\x00\x06\x01\x00\xff\x00\x00",
+        ).changed(64, 0x0c),
     )
 }
 
 fn huge(rt: &impl Print) -> io::Result<()> {
-    say(rt, b"length 4294967295 in a two-block body: ")?;
+    print!(rt; "length 4294967295 in a two-block body: ")?;
     judged(
         rt,
         b"\xff\xff\xff\xff\x00\x0e\x03fill fill\x00\x00\x00\x00\xfffill fill f",
@@ -178,211 +150,186 @@ fn huge(rt: &impl Print) -> io::Result<()> {
 
 // One more of a type after the Version, and two more.
 fn repeat(rt: &impl Print, kind: u8) -> io::Result<()> {
-    let mut one = [0x00u8, 0x02, 0x03, 0x00, 0x02, 0x03, 0xff, 0x00, 0x00];
-    let mut two = [
-        0x00u8, 0x02, 0x03, 0x00, 0x02, 0x03, 0x00, 0x02, 0x03, 0xff, 0x00, 0x00,
+    let one = [0x00, 0x02, 0x03, kind, 0x02, 0x03, 0xff, 0x00, 0x00];
+    let two = [
+        0x00, 0x02, 0x03, kind, 0x02, 0x03, kind, 0x02, 0x03, 0xff, 0x00, 0x00,
     ];
-    one[3] = kind;
-    two[3] = kind;
-    two[6] = kind;
     print!(rt; "{kind:02x}")?;
-    case(rt, b" once more", &one)?;
+    case(rt, " once more", &Built::by(&one))?;
     print!(rt; "{kind:02x}")?;
-    case(rt, b" twice more", &two)
+    case(rt, " twice more", &Built::by(&two))
 }
 
 fn repeats(rt: &impl Print) -> io::Result<()> {
-    say(
-        rt,
-        b"-- header types that may repeat, and those that may not\n",
-    )?;
-    for kind in 0..0x16 {
+    println!(rt; "-- header types that may repeat, and those that may not")?;
+    for kind in (0..0x16).chain([0xfe]) {
         repeat(rt, kind)?;
     }
-    repeat(rt, 0xfe)
+    Ok(())
 }
 
 fn records(rt: &impl Print) -> io::Result<()> {
-    say(rt, b"-- records\n")?;
-    case(
+    println!(rt; "-- records")?;
+    cases(
         rt,
-        b"one record",
-        b"\x00\x02\x03\xff\x00\x00\x01\x10\x00\x03\x01\x00\x06\x01\x00\xff\x00\x00",
-    )?;
-    case(
-        rt,
-        b"Password, Title, UUID",
-        b"\x00\x02\x03\xff\x00\x00\x06\x01\x00\x03\x01\x00\x01\x10\x00\xff\x00\x00",
-    )?;
-    case(
-        rt,
-        b"one record without END",
-        b"\x00\x02\x03\xff\x00\x00\x01\x10\x00\x03\x01\x00\x06\x01\x00",
-    )?;
-    case(
-        rt,
-        b"a field after the last END",
-        b"\x00\x02\x03\xff\x00\x00\x01\x10\x00\x03\x01\x00\x06\x01\x00\xff\x00\x00\x05\x01\x00",
-    )?;
-    case(rt, b"an END more", b"\x00\x02\x03\xff\x00\x00\xff\x00\x00")
+        &[
+            (
+                "one record",
+                b"\x00\x02\x03\xff\x00\x00\x01\x10\x00\x03\x01\x00\x06\x01\x00\xff\x00\x00",
+            ),
+            (
+                "Password, Title, UUID",
+                b"\x00\x02\x03\xff\x00\x00\x06\x01\x00\x03\x01\x00\x01\x10\x00\xff\x00\x00",
+            ),
+            (
+                "one record without END",
+                b"\x00\x02\x03\xff\x00\x00\x01\x10\x00\x03\x01\x00\x06\x01\x00",
+            ),
+            (
+                "a field after the last END",
+                b"\x00\x02\x03\xff\x00\x00\x01\x10\x00\x03\x01\x00\x06\x01\x00\xff\x00\x00\x05\x01\x00",
+            ),
+            ("an END more", b"\x00\x02\x03\xff\x00\x00\xff\x00\x00"),
+        ],
+    )
 }
 
 fn more_records(rt: &impl Print) -> io::Result<()> {
-    case(
+    cases(
         rt,
-        b"two records of one UUID",
-        b"\x00\x02\x03\xff\x00\x00\x01\x10\x00\x03\x01\x00\x06\x01\x00\xff\x00\x00\x01\x10\x00\x03\x01\x00\x06\x01\x00\xff\x00\x00",
-    )?;
-    case(
-        rt,
-        b"two records of two UUIDs",
-        b"\x00\x02\x03\xff\x00\x00\x01\x10\x00\x03\x01\x00\x06\x01\x00\xff\x00\x00\x01\x10\x01\x03\x01\x00\x06\x01\x00\xff\x00\x00",
-    )?;
-    case(
-        rt,
-        b"the UUID of the header and of a record",
-        b"\x00\x02\x03\x01\x10\x00\xff\x00\x00\x01\x10\x00\x03\x01\x00\x06\x01\x00\xff\x00\x00",
-    )?;
-    case(
-        rt,
-        b"unknown and repeated types",
-        b"\x00\x02\x03\xff\x00\x00\x01\x10\x00\x03\x01\x00\x06\x01\x00\x05\x02\x00\x05\x02\x00\x07\x03\x00\xfe\x01\x00\xfe\x01\x00\xff\x00\x00",
+        &[
+            (
+                "two records of one UUID",
+                b"\x00\x02\x03\xff\x00\x00\x01\x10\x00\x03\x01\x00\x06\x01\x00\xff\x00\x00\x01\x10\x00\x03\x01\x00\x06\x01\x00\xff\x00\x00",
+            ),
+            (
+                "two records of two UUIDs",
+                b"\x00\x02\x03\xff\x00\x00\x01\x10\x00\x03\x01\x00\x06\x01\x00\xff\x00\x00\x01\x10\x01\x03\x01\x00\x06\x01\x00\xff\x00\x00",
+            ),
+            (
+                "the UUID of the header and of a record",
+                b"\x00\x02\x03\x01\x10\x00\xff\x00\x00\x01\x10\x00\x03\x01\x00\x06\x01\x00\xff\x00\x00",
+            ),
+            (
+                "unknown and repeated types",
+                b"\x00\x02\x03\xff\x00\x00\x01\x10\x00\x03\x01\x00\x06\x01\x00\x05\x02\x00\x05\x02\x00\x07\x03\x00\xfe\x01\x00\xfe\x01\x00\xff\x00\x00",
+            ),
+        ],
     )
 }
 
 fn mandatory(rt: &impl Print) -> io::Result<()> {
-    say(rt, b"-- UUID, Title and Password\n")?;
-    case(
+    println!(rt; "-- UUID, Title and Password")?;
+    cases(
         rt,
-        b"no UUID",
-        b"\x00\x02\x03\xff\x00\x00\x03\x01\x00\x06\x01\x00\xff\x00\x00",
-    )?;
-    case(
-        rt,
-        b"no Title",
-        b"\x00\x02\x03\xff\x00\x00\x01\x10\x00\x06\x01\x00\xff\x00\x00",
-    )?;
-    case(
-        rt,
-        b"no Password",
-        b"\x00\x02\x03\xff\x00\x00\x01\x10\x00\x03\x01\x00\xff\x00\x00",
-    )?;
-    case(
-        rt,
-        b"two UUIDs",
-        b"\x00\x02\x03\xff\x00\x00\x01\x10\x00\x01\x10\x00\x03\x01\x00\x06\x01\x00\xff\x00\x00",
-    )?;
-    case(
-        rt,
-        b"two Titles",
-        b"\x00\x02\x03\xff\x00\x00\x01\x10\x00\x03\x01\x00\x03\x01\x00\x06\x01\x00\xff\x00\x00",
-    )?;
-    case(
-        rt,
-        b"two Passwords",
-        b"\x00\x02\x03\xff\x00\x00\x01\x10\x00\x03\x01\x00\x06\x01\x00\x06\x01\x00\xff\x00\x00",
+        &[
+            (
+                "no UUID",
+                b"\x00\x02\x03\xff\x00\x00\x03\x01\x00\x06\x01\x00\xff\x00\x00",
+            ),
+            (
+                "no Title",
+                b"\x00\x02\x03\xff\x00\x00\x01\x10\x00\x06\x01\x00\xff\x00\x00",
+            ),
+            (
+                "no Password",
+                b"\x00\x02\x03\xff\x00\x00\x01\x10\x00\x03\x01\x00\xff\x00\x00",
+            ),
+            (
+                "two UUIDs",
+                b"\x00\x02\x03\xff\x00\x00\x01\x10\x00\x01\x10\x00\x03\x01\x00\x06\x01\x00\xff\x00\x00",
+            ),
+            (
+                "two Titles",
+                b"\x00\x02\x03\xff\x00\x00\x01\x10\x00\x03\x01\x00\x03\x01\x00\x06\x01\x00\xff\x00\x00",
+            ),
+            (
+                "two Passwords",
+                b"\x00\x02\x03\xff\x00\x00\x01\x10\x00\x03\x01\x00\x06\x01\x00\x06\x01\x00\xff\x00\x00",
+            ),
+        ],
     )
 }
 
 fn sizes(rt: &impl Print) -> io::Result<()> {
-    case(
+    cases(
         rt,
-        b"UUID of 15 bytes",
-        b"\x00\x02\x03\xff\x00\x00\x01\x0f\x00\x03\x01\x00\x06\x01\x00\xff\x00\x00",
-    )?;
-    case(
-        rt,
-        b"UUID of 17 bytes",
-        b"\x00\x02\x03\xff\x00\x00\x01\x11\x00\x03\x01\x00\x06\x01\x00\xff\x00\x00",
-    )?;
-    case(
-        rt,
-        b"empty Title",
-        b"\x00\x02\x03\xff\x00\x00\x01\x10\x00\x03\x00\x00\x06\x01\x00\xff\x00\x00",
-    )?;
-    case(
-        rt,
-        b"empty Password",
-        b"\x00\x02\x03\xff\x00\x00\x01\x10\x00\x03\x01\x00\x06\x00\x00\xff\x00\x00",
-    )?;
-    case(
-        rt,
-        b"second record without Title",
-        b"\x00\x02\x03\xff\x00\x00\x01\x10\x00\x03\x01\x00\x06\x01\x00\xff\x00\x00\x01\x10\x00\x06\x01\x00\xff\x00\x00",
+        &[
+            (
+                "UUID of 15 bytes",
+                b"\x00\x02\x03\xff\x00\x00\x01\x0f\x00\x03\x01\x00\x06\x01\x00\xff\x00\x00",
+            ),
+            (
+                "UUID of 17 bytes",
+                b"\x00\x02\x03\xff\x00\x00\x01\x11\x00\x03\x01\x00\x06\x01\x00\xff\x00\x00",
+            ),
+            (
+                "empty Title",
+                b"\x00\x02\x03\xff\x00\x00\x01\x10\x00\x03\x00\x00\x06\x01\x00\xff\x00\x00",
+            ),
+            (
+                "empty Password",
+                b"\x00\x02\x03\xff\x00\x00\x01\x10\x00\x03\x01\x00\x06\x00\x00\xff\x00\x00",
+            ),
+            (
+                "second record without Title",
+                b"\x00\x02\x03\xff\x00\x00\x01\x10\x00\x03\x01\x00\x06\x01\x00\xff\x00\x00\x01\x10\x00\x06\x01\x00\xff\x00\x00",
+            ),
+        ],
     )
 }
 
-fn sought(rt: &impl Print, body: &[u8], second: u8) -> io::Result<()> {
-    // the UUID whose bytes are 61 but for the second
-    let low = 0x6161616161610061 + 256 * (second as u64);
-    let f = body::find(body, low, 0x6161616161616161);
-    let s = f.sought;
-    match s {
-        Sought::At(n, p) => {
-            say(rt, b"record ")?;
-            number(rt, n)?;
-            say(rt, b" at ")?;
-            number(rt, p)?;
-        }
-        Sought::Nowhere => say(rt, b"none")?,
-        Sought::NotWellFormed => say(rt, b"9")?,
+// Searched for the UUID whose bytes are 61 but for the second.
+fn sought(rt: &impl Print, name: &str, script: &[u8], second: u8) -> io::Result<()> {
+    let uuid = Uuid {
+        low: 0x6161616161610061 + 256 * u64::from(second),
+        high: 0x6161616161616161,
+    };
+    let found = body::find(Built::by(script).body(), uuid);
+    print!(rt; "{name}: ")?;
+    match found.sought {
+        Ok(Some(Place { number, place })) => print!(rt; "record {number} at {place}")?,
+        Ok(None) => print!(rt; "none")?,
+        Err(refusal) => print!(rt; "{}", u32::from(refusal))?,
     }
-    say(rt, b", fields visited: ")?;
-    number(rt, f.visited)?;
-    say(rt, b"\n")
-}
-
-// Searches the first n bytes.
-fn sought_first(rt: &impl Print, buf: &[u8], n: usize, second: u8) -> io::Result<()> {
-    if buf.len() < n {
-        return Ok(());
-    }
-    sought(rt, &buf[..n], second)
-}
-
-fn seek(rt: &impl Print, name: &[u8], script: &[u8], second: u8) -> io::Result<()> {
-    let mut buf = [0u8; 512];
-    say(rt, name)?;
-    say(rt, b": ")?;
-    let n = build(&mut buf, script);
-    sought_first(rt, &buf, n, second)
+    println!(rt; ", fields visited: {}", found.visited)
 }
 
 fn finds(rt: &impl Print) -> io::Result<()> {
-    say(rt, b"-- find\n")?;
-    seek(
+    println!(rt; "-- find")?;
+    sought(
         rt,
-        b"first of two records",
+        "first of two records",
         b"\x00\x02\x03\xff\x00\x00\x01\x10\x01\x03\x01\x00\x06\x01\x00\xff\x00\x00\x03\x01\x00\x06\x01\x00\x01\x10\x02\xff\x00\x00",
         1,
     )?;
-    seek(
+    sought(
         rt,
-        b"second of two records",
+        "second of two records",
         b"\x00\x02\x03\xff\x00\x00\x01\x10\x01\x03\x01\x00\x06\x01\x00\xff\x00\x00\x03\x01\x00\x06\x01\x00\x01\x10\x02\xff\x00\x00",
         2,
     )?;
-    seek(
+    sought(
         rt,
-        b"no such record",
+        "no such record",
         b"\x00\x02\x03\xff\x00\x00\x01\x10\x01\x03\x01\x00\x06\x01\x00\xff\x00\x00\x03\x01\x00\x06\x01\x00\x01\x10\x02\xff\x00\x00",
         3,
     )?;
-    seek(
+    sought(
         rt,
-        b"the UUID twice",
+        "the UUID twice",
         b"\x00\x02\x03\xff\x00\x00\x01\x10\x01\x03\x01\x00\x06\x01\x00\xff\x00\x00\x01\x10\x01\x03\x01\x00\x06\x01\x00\xff\x00\x00",
         1,
     )?;
-    seek(
+    sought(
         rt,
-        b"the UUID in the header only",
+        "the UUID in the header only",
         b"\x00\x02\x03\x01\x10\x01\xff\x00\x00",
         1,
     )?;
-    seek(
+    sought(
         rt,
-        b"the UUID in a body that is not well formed",
+        "the UUID in a body that is not well formed",
         b"\x00\x02\x03\xff\x00\x00\x01\x10\x01\x03\x01\x00\xff\x00\x00",
         1,
     )

@@ -3,19 +3,23 @@
 use mathlib.Core.Path.{◌≡◌, refl, sym, ap, ap₂, ◌∙◌}
 use mathlib.Core.Bool.{Bool, true, false, cond}
 use mathlib.Core.List.{List, [], ◌∷◌, ◌++◌}
-use Prim.Native.Nat.{ℕ, ◌+◌, ◌*◌, ◌/◌, ◌%◌, ◌^◌, ◌<◌}
-use native.Mathlib.Nat.{mod-eq_of_lt}
+use Prim.Native.Nat.{ℕ, zero, suc, ◌+◌, ◌*◌, ◌/◌, ◌%◌, ◌^◌, ◌<◌}
+use native.Mathlib.Nat.{mod-eq_of_lt, div-one}
 use native.Mathlib.Omega.{arith}
 use lib.Dec.{eqb, lit<}
-use lib.ListN.{length}
-use Rattle.words.specs.Numbers.{bytes_low, byte_of, Bytes, none, more, Sized}
+use lib.ListN.{length, take, drop}
+use Rattle.std.proofs.lemmas.List.{get_or-replicate}
+use Rattle.std.specs.Int.{to_le_bytes}
+use mir.Syntax.{w32}
+use Rattle.words.specs.Numbers.{number_low, bytes_low, Bytes, none, more, Sized}
+use Rattle.words.specs.Slices.{zeros, copied}
 use Rattle.words.proofs.ByteLaws.{byte_at, sized_append}
 use Rattle.words.proofs.NumberLaws.{number_bytes, bytes_number, number_fits, bytes_sized, four_low}
 use Rattle.words.proofs.RotationLaws.{left_fits}
 use Rattle.words.specs.Table.{at}
 use Rattle.twofish.specs.Q.{q0, q1}
 use Rattle.twofish.specs.Key.{evens, odds, word_a, word_b, subkey, subkeys, g}
-use Rattle.twofish.specs.Twofish.{block_of, block_bytes, encrypt_words, decrypt_words, encrypt_block, decrypt_block}
+use Rattle.twofish.specs.Twofish.{word_at, block_of, block_bytes, encrypt_words, decrypt_words, encrypt_block, decrypt_block}
 use Rattle.twofish.specs.declared.Block.{Block}
 use Rattle.words.proofs.Tables.{table_fits, is_table}
 use Rattle.twofish.proofs.Rounds.{Words, blocks, decrypt_encrypt, encrypt_decrypt, encrypt_words_lem, decrypt_words_lem}
@@ -71,16 +75,28 @@ block_bytes_lem x w =
     (number_bytes 4 x.c ∙ mod-eq_of_lt w.fc)
     (number_bytes 4 x.d ∙ mod-eq_of_lt w.fd)
 
--- the bytes of a block, one by one
-pub sixteen : (x : Block)
-    → byte_of 0 x.a ∷ byte_of 1 x.a ∷ byte_of 2 x.a ∷ byte_of 3 x.a
-    ∷ byte_of 0 x.b ∷ byte_of 1 x.b ∷ byte_of 2 x.b ∷ byte_of 3 x.b
-    ∷ byte_of 0 x.c ∷ byte_of 1 x.c ∷ byte_of 2 x.c ∷ byte_of 3 x.c
-    ∷ byte_of 0 x.d ∷ byte_of 1 x.d ∷ byte_of 2 x.d ∷ byte_of 3 x.d ∷ []
-    ≡ block_bytes x
+-- the bytes of a block, word by word as std has them
+four_bytes : (x : ℕ) → to_le_bytes w32 x ≡ bytes_low 4 x
+four_bytes x = ap (λ (y : ℕ). y % 256 ∷ x / 256 % 256 ∷ x / 65536 % 256 ∷ x / 16777216 % 256 ∷ []) (sym (div-one x)) ∙ sym (four_low x)
+
+pub sixteen : (x : Block) → to_le_bytes w32 x.a ++ (to_le_bytes w32 x.b ++ (to_le_bytes w32 x.c ++ to_le_bytes w32 x.d)) ≡ block_bytes x
 unfolding block_bytes
-sixteen x =
-    sym (ap₂ ◌++◌ (four_low x.a) (ap₂ ◌++◌ (four_low x.b) (ap₂ ◌++◌ (four_low x.c) (four_low x.d))))
+sixteen x = ap₂ ◌++◌ (four_bytes x.a) (ap₂ ◌++◌ (four_bytes x.b) (ap₂ ◌++◌ (four_bytes x.c) (four_bytes x.d)))
+
+-- the first 16 bytes, with zeros where a list is shorter, are the same block
+padded : (n : ℕ) (l : List ℕ) (i : ℕ) → i < n → at (take n l ++ drop (length l) (zeros n)) i ≡ at l i
+padded zero l i h = absurd (omega arith)
+padded (suc n) [] i h = get_or-replicate (suc n) i 0 0 h
+padded (suc n) (b ∷ l) zero h = refl
+padded (suc n) (b ∷ l) (suc i) h = padded n l i (omega arith)
+
+pub block_of_first : (l : List ℕ) → block_of (copied (zeros 16) l) ≡ block_of l
+unfolding block_of
+block_of_first l = blocks (word 0 (omega arith)) (word 4 (omega arith)) (word 8 (omega arith)) (word 12 (omega arith))
+  where
+    word : (i : ℕ) → i + 3 < 16 → word_at (copied (zeros 16) l) i ≡ word_at l i
+    word i h =
+        λ t. number_low (padded 16 l i (omega arith) t ∷ padded 16 l (i + 1) (omega arith) t ∷ padded 16 l (i + 2) (omega arith) t ∷ padded 16 l (i + 3) (omega arith) t ∷ [])
 
 pub block_bytes_sized : (x : Block) → Sized 16 (block_bytes x)
 unfolding block_bytes

@@ -1,8 +1,9 @@
 -- The four look-ups in the tables that a list l fills are h of l, and so g: each entry is one column of the MDS matrix times y of a byte, and the
 -- columns add up to the product.
 use mathlib.Core.Path.{◌≡◌, sym, ap₂, ◌∙◌, fun_ext}
-use mathlib.Core.List.{List}
-use Prim.Native.Nat.{ℕ, ◌<◌}
+use mathlib.Core.List.{List, [], ◌∷◌}
+use Prim.Native.Nat.{ℕ, zero, suc, ◌<◌}
+use borrow.Author.Tests.{ne_eqb}
 use native.Mathlib.Omega.{arith}
 use Rattle.words.specs.Numbers.{byte_of}
 use Rattle.words.specs.Table.{at}
@@ -10,7 +11,8 @@ use Rattle.words.proofs.Tables.{at_table}
 use Rattle.twofish.specs.Field.{◌⊕◌}
 use Rattle.twofish.specs.Q.{q0, q1}
 use Rattle.twofish.specs.Key.{y0, y1, y2, y3, mds, h}
-use Rattle.twofish.specs.Tabled.{entry, filled, tabled_g}
+use Rattle.twofish.specs.Columns.{column}
+use Rattle.twofish.specs.Tabled.{y, entry, filled, tabled_g}
 use Rattle.twofish.proofs.ColumnSums.{columns, only0, only1, only2, only3}
 use Rattle.twofish.proofs.Permutations.{q0_byte, q1_byte}
 
@@ -41,18 +43,40 @@ module _ (l : List ℕ) where
   unfolding y0 y1 y2 y3
   bytes x = (q1_byte _, q0_byte _, q1_byte _, q0_byte _)
 
-  looked : (x : ℕ) → tabled_g (filled q0 q1 l 0) (filled q0 q1 l 1) (filled q0 q1 l 2) (filled q0 q1 l 3) x ≡ h q0 q1 l x
-  unfolding tabled_g h
-  looked x =
-      let a = byte_of 0 x in
-      let b = byte_of 1 x in
-      let c = byte_of 2 x in
-      let d = byte_of 3 x in
-      let p = entry0 a (omega arith) ∙ sym (only0 _ (bytes a).0) in
-      let q = entry1 b (omega arith) ∙ sym (only1 _ (bytes b).1) in
-      let r = entry2 c (omega arith) ∙ sym (only2 _ (bytes c).2) in
-      let s = entry3 d (omega arith) ∙ sym (only3 _ (bytes d).3) in
-      ap₂ ◌⊕◌ (ap₂ ◌⊕◌ (ap₂ ◌⊕◌ p q) r) s ∙ columns _ _ _ _ (bytes a).0 (bytes b).1 (bytes c).2 (bytes d).3
+  -- an entry is a column alone
+  pub entry_is : (j x : ℕ) → column j (y q0 q1 l j x) ≡ entry q0 q1 l j x
+  unfolding column y entry
+  entry_is zero x = only0 _ (bytes x).0
+  entry_is (suc zero) x = only1 _ (bytes x).1
+  entry_is (suc (suc zero)) x = only2 _ (bytes x).2
+  entry_is (suc (suc (suc j))) x =
+      let k = suc (suc (suc j)) in
+      rw (ne_eqb k 0 (omega arith), ne_eqb k 1 (omega arith), ne_eqb k 2 (omega arith)) (only3 _ (bytes x).3)
 
-  pub looked_up : tabled_g (filled q0 q1 l 0) (filled q0 q1 l 1) (filled q0 q1 l 2) (filled q0 q1 l 3) ≡ h q0 q1 l
+  -- the entries of the four bytes of a word add up to h
+  pub added : (x : ℕ)
+      → entry q0 q1 l 0 (byte_of 0 x) ⊕ entry q0 q1 l 1 (byte_of 1 x) ⊕ entry q0 q1 l 2 (byte_of 2 x) ⊕ entry q0 q1 l 3 (byte_of 3 x) ≡ h q0 q1 l x
+  unfolding entry h
+  added x =
+      let a = bytes (byte_of 0 x) in
+      let b = bytes (byte_of 1 x) in
+      let c = bytes (byte_of 2 x) in
+      let d = bytes (byte_of 3 x) in
+      ap₂ ◌⊕◌ (ap₂ ◌⊕◌ (ap₂ ◌⊕◌ (sym (only0 _ a.0)) (sym (only1 _ b.1))) (sym (only2 _ c.2))) (sym (only3 _ d.3))
+      ∙ columns _ _ _ _ a.0 b.1 c.2 d.3
+
+  -- the four tables
+  abbrev pub tables : List (List ℕ)
+  tables = filled q0 q1 l 0 ∷ filled q0 q1 l 1 ∷ filled q0 q1 l 2 ∷ filled q0 q1 l 3 ∷ []
+
+  looked : (x : ℕ) → tabled_g tables x ≡ h q0 q1 l x
+  unfolding tabled_g
+  looked x =
+      let p = every_entry 0 (byte_of 0 x) (omega arith) in
+      let q = every_entry 1 (byte_of 1 x) (omega arith) in
+      let r = every_entry 2 (byte_of 2 x) (omega arith) in
+      let s = every_entry 3 (byte_of 3 x) (omega arith) in
+      ap₂ ◌⊕◌ (ap₂ ◌⊕◌ (ap₂ ◌⊕◌ p q) r) s ∙ added x
+
+  pub looked_up : tabled_g tables ≡ h q0 q1 l
   looked_up = fun_ext looked

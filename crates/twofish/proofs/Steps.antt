@@ -10,29 +10,40 @@ use Rattle.twofish.specs.declared.Three.{Three}
 use Rattle.twofish.specs.Beside.{threefold}
 use Rattle.twofish.proofs.Rounds.{blocks}
 
+-- a sum modulo 2^32, and one word more
+more : (x k : ℕ) → (x % 2 ^ 32 + k) % 2 ^ 32 ≡ (x + k) % 2 ^ 32
+more x k = omega arith
+
 module _ (g k : ℕ → ℕ) where
-  -- the two words of F, of words a and b, and a round each way with them
-  module _ (r a b : ℕ) {y t z f f' : ℕ} (ey : y ≡ g a) (et : t ≡ rotate_left 32 8 b) (ez : z ≡ g t)
-      (e : f ≡ (y + z + k (2 * r + 8)) % 2 ^ 32) (e' : f' ≡ (y + 2 * z + k (2 * r + 9)) % 2 ^ 32) where
-    F0_made : f ≡ F0 g k r a b
+  -- the two words of F, of words a and b
+  module _ (r a b : ℕ) {y t z : ℕ} (ey : y ≡ g a) (et : t ≡ rotate_left 32 8 b) (ez : z ≡ g t) where
+    pub F0_made : {p f : ℕ} → p ≡ (y + z) % 2 ^ 32 → f ≡ (p + k (2 * r + 8)) % 2 ^ 32 → f ≡ F0 g k r a b
     unfolding F0
-    F0_made = e ∙ ap₂ (λ (u v : ℕ). (u + v + k (2 * r + 8)) % 2 ^ 32) ey (ez ∙ ap g et)
+    F0_made ep e =
+        e
+        ∙ ap (λ (u : ℕ). (u + k (2 * r + 8)) % 2 ^ 32) (ep ∙ ap₂ (λ (u v : ℕ). (u + v) % 2 ^ 32) ey (ez ∙ ap g et))
+        ∙ more (g a + g (rotate_left 32 8 b)) (k (2 * r + 8))
 
-    F1_made : f' ≡ F1 g k r a b
+    pub F1_made : {p f : ℕ} → p ≡ (y + 2 * z) % 2 ^ 32 → f ≡ (p + k (2 * r + 9)) % 2 ^ 32 → f ≡ F1 g k r a b
     unfolding F1
-    F1_made = e' ∙ ap₂ (λ (u v : ℕ). (u + 2 * v + k (2 * r + 9)) % 2 ^ 32) ey (ez ∙ ap g et)
+    F1_made ep e =
+        e
+        ∙ ap (λ (u : ℕ). (u + k (2 * r + 9)) % 2 ^ 32) (ep ∙ ap₂ (λ (u v : ℕ). (u + 2 * v) % 2 ^ 32) ey (ez ∙ ap g et))
+        ∙ more (g a + 2 * g (rotate_left 32 8 b)) (k (2 * r + 9))
 
-    pub round_made : (c d : ℕ) {p q : ℕ} → p ≡ rotate_right 32 1 (c ⊕ f) → q ≡ rotate_left 32 1 d
+  -- a round each way with them
+  module _ (r a b c d : ℕ) {f f' p q : ℕ} (e : f ≡ F0 g k r a b) (e' : f' ≡ F1 g k r a b) where
+    pub round_made : p ≡ rotate_right 32 1 (c ⊕ f) → q ≡ rotate_left 32 1 d
         → record { a = p; b = q ⊕ f'; c = a; d = b } ≡ round g k r (record { a = a; b = b; c = c; d = d })
     unfolding round
-    round_made c d ep eq =
-        blocks (ep ∙ ap (λ (u : ℕ). rotate_right 32 1 (c ⊕ u)) F0_made) (ap₂ ◌⊕◌ eq F1_made) refl refl
+    round_made ep eq =
+        blocks (ep ∙ ap (λ (u : ℕ). rotate_right 32 1 (c ⊕ u)) e) (ap₂ ◌⊕◌ eq e') refl refl
 
-    pub unround_made : (c d : ℕ) {p q : ℕ} → p ≡ rotate_left 32 1 c → q ≡ rotate_right 32 1 (d ⊕ f')
+    pub unround_made : p ≡ rotate_left 32 1 c → q ≡ rotate_right 32 1 (d ⊕ f')
         → record { a = a; b = b; c = p ⊕ f; d = q } ≡ unround g k r (record { a = c; b = d; c = a; d = b })
     unfolding unround
-    unround_made c d ep eq =
-        blocks refl refl (ap₂ ◌⊕◌ ep F0_made) (eq ∙ ap (λ (u : ℕ). rotate_right 32 1 (d ⊕ u)) F1_made)
+    unround_made ep eq =
+        blocks refl refl (ap₂ ◌⊕◌ ep e) (eq ∙ ap (λ (u : ℕ). rotate_right 32 1 (d ⊕ u)) e')
 
   -- two rounds more
   pub two_more : (i : ℕ) (s : Block) {x y z : Block} → x ≡ rounds g k (2 * i) s → y ≡ round g k (2 * i) x

@@ -18,3 +18,7 @@ col2 y = number_low (gf 0x169 0x5B y ∷ gf 0x169 0xEF y ∷ y ∷ gf 0x169 0xEF
 
 unfoldable pub col3 : ℕ → ℕ
 col3 y = number_low (gf 0x169 0x5B y ∷ y ∷ gf 0x169 0xEF y ∷ gf 0x169 0x5B y ∷ [])
+
+-- column j; a j past 3 counts as 3
+unfoldable pub column : ℕ → ℕ → ℕ
+column j y = cond (eqb j 0) (col0 y) (cond (eqb j 1) (col1 y) (cond (eqb j 2) (col2 y) (col3 y)))

@@ -1,67 +1,37 @@
 // Three blocks decrypted side by side: none waits for another, so the processor works on all of them.
-ghost use Rattle.std.specs.Prelude.{◌≡◌, ◌+◌, ◌*◌, ◌<◌};
-ghost use Rattle.words.specs.Table.{at};
-ghost use Rattle.twofish.specs.Cipher.{whiten as whiten_of, swap as swap_of, unround as unround_of};
-ghost use Rattle.twofish.specs.Tabled.{tabled_g, tabled_decrypt};
+ghost use Rattle.std.specs.Prelude.{◌≡◌};
+ghost use Rattle.twofish.specs.Tabled.{tabled_decrypt};
 ghost use Rattle.twofish.specs.Beside.{threefold};
 
-use super::round::{swap, unround, whiten};
-use super::{Block, Three};
+use super::round::swap;
+use super::{Block, Schedule, Three};
 
-// Rounds 2 i + 1 and 2 i back. It has one caller, and so is put into its loop.
-fn two_back(
-    g0: &[u32; 256],
-    g1: &[u32; 256],
-    g2: &[u32; 256],
-    g3: &[u32; 256],
-    k: &[u32; 40],
-    i: usize,
-    t: Three,
-) -> Three
-    requires { i < 8 }
-    ensures { result ≡ threefold (unround_of (tabled_g g0.now g1.now g2.now g3.now) (at k.now) (2 * i))
-        (threefold (unround_of (tabled_g g0.now g1.now g2.now g3.now) (at k.now) (2 * i + 1)) t) }
-{
-    let x = unround(g0, g1, g2, g3, k, 2 * i + 1, t.x);
-    let y = unround(g0, g1, g2, g3, k, 2 * i + 1, t.y);
-    let z = unround(g0, g1, g2, g3, k, 2 * i + 1, t.z);
-    Three {
-        x: unround(g0, g1, g2, g3, k, 2 * i, x),
-        y: unround(g0, g1, g2, g3, k, 2 * i, y),
-        z: unround(g0, g1, g2, g3, k, 2 * i, z),
+impl Three {
+    // f of each.
+    fn map<F: Fn(Block) -> Block>(self, f: F) -> Three
+        requires { F.IsAlwaysCallable f }
+        ensures first { F.post f self.x result.x }
+        ensures second { F.post f self.y result.y }
+        ensures third { F.post f self.z result.z }
+    {
+        Three {
+            x: f(self.x),
+            y: f(self.y),
+            z: f(self.z),
+        }
     }
 }
 
-// What the rounds back start from.
-fn enter(k: &[u32; 40], x: Block) -> Block
-    ensures { result ≡ swap_of (whiten_of (at k.now) 4 x) }
-{
-    swap(whiten(k, 4, x))
-}
-
-pub fn decrypt(
-    g0: &[u32; 256],
-    g1: &[u32; 256],
-    g2: &[u32; 256],
-    g3: &[u32; 256],
-    k: &[u32; 40],
-    t: Three,
-) -> Three
-    ensures { result ≡ threefold (tabled_decrypt g0.now g1.now g2.now g3.now k.now) t }
-{
-    let mut u = Three {
-        x: enter(k, t.x),
-        y: enter(k, t.y),
-        z: enter(k, t.z),
-    };
-    let mut i: usize = 8;
-    while 0 < i {
-        i -= 1;
-        u = two_back(g0, g1, g2, g3, k, i, u);
-    }
-    Three {
-        x: whiten(k, 0, u.x),
-        y: whiten(k, 0, u.y),
-        z: whiten(k, 0, u.z),
+impl Schedule {
+    // Two rounds a turn, as for one block.
+    pub fn decrypt_three(&self, t: Three) -> Three
+        ensures { result ≡ threefold (tabled_decrypt self.now) t }
+    {
+        let mut u = t.map(|x| swap(self.whiten(4, x)));
+        for i in (0..8).rev() {
+            let v = u.map(|x| self.unround(2 * i + 1, x));
+            u = v.map(|x| self.unround(2 * i, x));
+        }
+        u.map(|x| self.whiten(0, x))
     }
 }

@@ -1,7 +1,9 @@
 // Bytes as polynomials over GF(2).
 ghost use Rattle.std.specs.Prelude.{◌≡◌, ◌*◌, ◌%◌};
 ghost use Rattle.twofish.specs.Field.{gf, twice as twice_of};
-ghost use Rattle.twofish.specs.Columns.{half as half_of, col0 as col0_of, col1 as col1_of, col2 as col2_of, col3 as col3_of};
+ghost use Rattle.twofish.specs.Columns.{half as half_of, column as column_of};
+
+use words::numbers::low;
 
 // x divided by the polynomial x, modulo 0x169.
 fn half(x: u8) -> u8
@@ -10,42 +12,28 @@ fn half(x: u8) -> u8
     if x % 2 == 0 { x / 2 } else { x / 2 ^ 0xB4 }
 }
 
-// 0x5B is 1 + 1/4, and 0xEF is 1 + 1/2 + 1/4.
-fn times_5b(x: u8) -> u8
-    ensures { result ≡ gf 0x169 0x5B x }
+// x times 0x5B, which is 1 + 1/4, and times 0xEF, which is 1 + 1/2 + 1/4.
+fn multiples(x: u8) -> (u8, u8)
+    ensures first { result.0 ≡ gf 0x169 0x5B x }
+    ensures second { result.1 ≡ gf 0x169 0xEF x }
 {
-    x ^ half(half(x))
+    let h = half(x);
+    let q = half(h);
+    (x ^ q, x ^ h ^ q)
 }
 
-fn times_ef(x: u8) -> u8
-    ensures { result ≡ gf 0x169 0xEF x }
+// Column j of the MDS matrix, times a byte; a j past 3 counts as 3.
+pub fn column(j: usize, y: u8) -> u32
+    ensures { result ≡ column_of j y }
 {
-    x ^ half(x) ^ half(half(x))
-}
-
-// The columns of the MDS matrix, each times a byte.
-pub fn col0(y: u8) -> u32
-    ensures { result ≡ col0_of y }
-{
-    words::numbers::low(y, times_5b(y), times_ef(y), times_ef(y))
-}
-
-pub fn col1(y: u8) -> u32
-    ensures { result ≡ col1_of y }
-{
-    words::numbers::low(times_ef(y), times_ef(y), times_5b(y), y)
-}
-
-pub fn col2(y: u8) -> u32
-    ensures { result ≡ col2_of y }
-{
-    words::numbers::low(times_5b(y), times_ef(y), y, times_ef(y))
-}
-
-pub fn col3(y: u8) -> u32
-    ensures { result ≡ col3_of y }
-{
-    words::numbers::low(times_5b(y), y, times_ef(y), times_5b(y))
+    let (b, e) = multiples(y);
+    // The matrix itself, column by column.
+    match j {
+        0 => low(y, b, e, e),
+        1 => low(e, e, b, y),
+        2 => low(b, e, y, e),
+        _ => low(b, y, e, b),
+    }
 }
 
 // a times the polynomial x, modulo 0x14D.
@@ -71,15 +59,13 @@ fn part(a: u8, b: u8) -> u8
 pub fn times(a: u8, b: u8) -> u8
     ensures { result ≡ gf 0x14D a b }
 {
-    let mut r: u8 = 0;
+    let mut r = 0;
     let mut x = a;
     let mut y = b;
-    let mut n: usize = 8;
-    while 0 < n {
-        r = r ^ part(x, y);
+    for _ in 0..8u8 {
+        r ^= part(x, y);
         x = twice(x);
-        y = y / 2;
-        n = n - 1;
+        y /= 2;
     }
     r
 }

@@ -1,80 +1,76 @@
-// The look-ups of g, a round of the cipher and back, and the whitening. g0 to g3 are the tables of g, and k has the subkeys.
+// The look-ups of g, a round of the cipher and back, and the whitening.
 ghost use Rattle.std.specs.Prelude.{◌≡◌, ◌<◌};
 ghost use Rattle.words.specs.Table.{at};
-ghost use Rattle.twofish.specs.Cipher.{whiten as whiten_of, swap as swap_of, round as round_of, unround as unround_of};
+ghost use Rattle.twofish.specs.Cipher.{whiten as whiten_of, swap as swap_of, F0, F1, round as round_of, unround as unround_of};
 ghost use Rattle.twofish.specs.Tabled.{tabled_g};
 
-use super::Block;
-use super::key::{sum, sum_twice};
+use super::key::transformed;
+use super::{Block, Schedule};
 use words::numbers::byte;
 use words::rotation::{left, right};
 
-fn look(g: &[u32; 256], x: u8) -> u32
-    ensures { result ≡ at g.now x }
-{
-    g[x as usize]
-}
-
-fn g(g0: &[u32; 256], g1: &[u32; 256], g2: &[u32; 256], g3: &[u32; 256], x: u32) -> u32
-    ensures { result ≡ tabled_g g0.now g1.now g2.now g3.now x }
-{
-    look(g0, byte(x, 0)) ^ look(g1, byte(x, 1)) ^ look(g2, byte(x, 2)) ^ look(g3, byte(x, 3))
-}
-
-pub fn round(
-    g0: &[u32; 256],
-    g1: &[u32; 256],
-    g2: &[u32; 256],
-    g3: &[u32; 256],
-    k: &[u32; 40],
-    i: usize,
-    x: Block,
-) -> Block
-    requires { i < 16 }
-    ensures { result ≡ round_of (tabled_g g0.now g1.now g2.now g3.now) (at k.now) i x }
-{
-    let y = g(g0, g1, g2, g3, x.a);
-    let z = g(g0, g1, g2, g3, left(x.b, 8));
-    Block {
-        a: right(x.c ^ sum(y, z, k[2 * i + 8]), 1),
-        b: left(x.d, 1) ^ sum_twice(y, z, k[2 * i + 9]),
-        c: x.a,
-        d: x.b,
+impl Schedule {
+    fn g(&self, x: u32) -> u32
+        ensures { result ≡ tabled_g self.now.g x }
+    {
+        self.g[0][byte(x, 0) as usize]
+            ^ self.g[1][byte(x, 1) as usize]
+            ^ self.g[2][byte(x, 2) as usize]
+            ^ self.g[3][byte(x, 3) as usize]
     }
-}
 
-pub fn unround(
-    g0: &[u32; 256],
-    g1: &[u32; 256],
-    g2: &[u32; 256],
-    g3: &[u32; 256],
-    k: &[u32; 40],
-    i: usize,
-    x: Block,
-) -> Block
-    requires { i < 16 }
-    ensures { result ≡ unround_of (tabled_g g0.now g1.now g2.now g3.now) (at k.now) i x }
-{
-    let y = g(g0, g1, g2, g3, x.c);
-    let z = g(g0, g1, g2, g3, left(x.d, 8));
-    Block {
-        a: x.c,
-        b: x.d,
-        c: left(x.a, 1) ^ sum(y, z, k[2 * i + 8]),
-        d: right(x.b ^ sum_twice(y, z, k[2 * i + 9]), 1),
+    // The two words of the function F in round i (4.1).
+    // A plain number: callers have it from a `for`, and a type of its own would be made and taken apart at every call.
+    fn f(&self, i: usize, a: u32, b: u32) -> (u32, u32)
+        requires { i < 16 }
+        ensures first { result.0 ≡ F0 (tabled_g self.now.g) (at self.now.k) i a b }
+        ensures second { result.1 ≡ F1 (tabled_g self.now.g) (at self.now.k) i a b }
+    {
+        let (p, q) = transformed(self.g(a), self.g(left(b, 8)));
+        (
+            p.wrapping_add(self.k[2 * i + 8]),
+            q.wrapping_add(self.k[2 * i + 9]),
+        )
     }
-}
 
-// The words of a block, each with a subkey.
-pub fn whiten(k: &[u32; 40], i: usize, x: Block) -> Block
-    requires { i < 5 }
-    ensures { result ≡ whiten_of (at k.now) i x }
-{
-    Block {
-        a: x.a ^ k[i],
-        b: x.b ^ k[i + 1],
-        c: x.c ^ k[i + 2],
-        d: x.d ^ k[i + 3],
+    // Back is its own formula, and no round with other numbers.
+    pub(crate) fn round(&self, i: usize, x: Block) -> Block
+        requires { i < 16 }
+        ensures { result ≡ round_of (tabled_g self.now.g) (at self.now.k) i x }
+    {
+        let (p, q) = self.f(i, x.a, x.b);
+        Block {
+            a: right(x.c ^ p, 1),
+            b: left(x.d, 1) ^ q,
+            c: x.a,
+            d: x.b,
+        }
+    }
+
+    pub(crate) fn unround(&self, i: usize, x: Block) -> Block
+        requires { i < 16 }
+        ensures { result ≡ unround_of (tabled_g self.now.g) (at self.now.k) i x }
+    {
+        let (p, q) = self.f(i, x.c, x.d);
+        Block {
+            a: x.c,
+            b: x.d,
+            c: left(x.a, 1) ^ p,
+            d: right(x.b ^ q, 1),
+        }
+    }
+
+    // The words of a block, each with a subkey.
+    pub(crate) fn whiten(&self, i: usize, x: Block) -> Block
+        requires { i < 5 }
+        ensures { result ≡ whiten_of (at self.now.k) i x }
+    {
+        Block {
+            a: x.a ^ self.k[i],
+            b: x.b ^ self.k[i + 1],
+            c: x.c ^ self.k[i + 2],
+            d: x.d ^ self.k[i + 3],
+        }
     }
 }
 

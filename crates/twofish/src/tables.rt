@@ -1,36 +1,39 @@
-// The four tables of g, one for each byte of a word. t0 and t1 are the tables of q0 and q1, and s is the vector S.
+// The four tables of g, one for each byte of a word: s is the vector S.
 ghost use Rattle.std.specs.Prelude.{◌≡◌};
-ghost use Rattle.words.specs.Table.{at};
-ghost use Rattle.twofish.specs.Tabled.{entry as entry_of, filled};
+ghost use Rattle.twofish.specs.Q.{q0, q1};
+ghost use Rattle.twofish.specs.Tabled.{entry as entry_of, filled, schedule_of};
 
-use super::field::{col0, col1, col2, col3};
-use super::key::{y0, y1, y2, y3};
+use super::Schedule;
+use super::field::column;
+use super::key::{box_key, subkeys, y};
 
 // Entry x of table j; a j past 3 counts as 3.
-fn entry(t0: &[u8; 256], t1: &[u8; 256], s: &[u8; 16], j: usize, x: u8) -> u32
-    ensures { result ≡ entry_of (at t0.now) (at t1.now) s.now j x }
+pub fn entry(s: &[u8; 16], j: usize, x: u8) -> u32
+    ensures { result ≡ entry_of q0 q1 s.now j x }
 {
-    if j == 0 {
-        return col0(y0(t0, t1, s, x));
-    }
-    if j == 1 {
-        return col1(y1(t0, t1, s, x));
-    }
-    if j == 2 {
-        return col2(y2(t0, t1, s, x));
-    }
-    col3(y3(t0, t1, s, x))
+    column(j, y(s, j, x))
 }
 
 // Table j of the four.
-pub fn fill(t0: &[u8; 256], t1: &[u8; 256], s: &[u8; 16], j: usize) -> [u32; 256]
-    ensures { result ≡ filled (at t0.now) (at t1.now) s.now j }
+fn fill(s: &[u8; 16], j: usize) -> [u32; 256]
+    ensures { result ≡ filled q0 q1 s.now j }
 {
+    // An array made empty and filled, as document 02 has it.
     let mut r = [0u32; 256];
-    let mut x: usize = 0;
-    while x < 256 {
-        r[x] = entry(t0, t1, s, j, x as u8);
-        x += 1;
+    for x in 0..256 {
+        r[x] = entry(s, j, x as u8);
     }
     r
+}
+
+impl Schedule {
+    pub fn new(key: &[u8; 32]) -> Schedule
+        ensures { result ≡ schedule_of key.now }
+    {
+        let s = box_key(key);
+        Schedule {
+            g: [fill(&s, 0), fill(&s, 1), fill(&s, 2), fill(&s, 3)],
+            k: subkeys(key),
+        }
+    }
 }

@@ -1,92 +1,83 @@
 -- Batch after batch: none below the best answer so far is the same as an earlier one of those that were members. Once all were, or the answer is reached, it is the first of all.
 use Prim.Native.Nat.{ℕ, ◌+◌, ◌-◌, ◌≤◌, ◌<◌}
-use mathlib.Core.Path.{◌≡◌, refl, sym, ap, ◌∙◌, subst}
-use mathlib.Core.Bool.{Bool, true, false, cond}
+use mathlib.Core.Path.{◌≡◌, sym, ap, ◌∙◌, subst}
 use mathlib.Core.Logic.{⊎_elim}
 use mathlib.Core.List.{List, []}
-use native.Mathlib.Nat.{eq-or-lt_of_le}
 use native.Mathlib.Omega.{arith}
-use lib.Dec.{ltb}
 use lib.ListN.{length, get_or, drop, length-drop}
 use lib.Seq.{get_or-drop, drop-drop}
-use borrow.Author.Tests.{ltb-true, ltb-false}
+use Rattle.std.specs.Prelude.{Option, Some, None, IfSome}
+use Rattle.std.specs.Option.{unwrap_or, option_or}
 use Rattle.words.proofs.Either.{lt_or_ge}
 use Rattle.uuids.specs.Uuids.{uuids_from, Again, Repeats}
-use Rattle.uuids.specs.Batches.{NextAt, Best, on_from, Passing, answer_of}
-use Rattle.uuids.specs.declared.Repeat.TheVariants.{At, Nothing}
+use Rattle.uuids.specs.Batches.{NextAt, Best, on_from, Passing}
 use Rattle.uuids.specs.declared.batch.Went.{Went}
 use Rattle.uuids.proofs.Steps.{few}
 
--- of us, the first h were members, and b is the best answer so far; n for none
-pub record Standing (us : List (List ℕ)) (n h b : ℕ) : Type 0 where
-  pub most : b ≤ n
-  pub none : (i j : ℕ) → i < b → i < length us → j < i → j < h → get_or us j [] ≡ get_or us i [] → ⊥
-  pub hit : b < n → (b < length us) × Again us b
+-- of us, the first h were members, and b is the best answer so far; none has a number from n on
+pub record Standing (us : List (List ℕ)) (n h : ℕ) (b : Option ℕ) : Type 0 where
+  pub none : (i j : ℕ) → i < unwrap_or b n → i < length us → j < i → j < h → get_or us j [] ≡ get_or us i [] → ⊥
+  pub some : IfSome b (λ k. (k < length us) × Again us k)
 
 -- the members of the next batch too
-further : (us vs : List (List ℕ)) (n h m b c : ℕ) → Standing us n h b → vs ≡ drop h us → h ≤ length us → Best vs m h b c → Standing us n (h + m) c
-further us vs n h m b c x e g y = record {
-  most = omega (arith, x.most, y.most);
-  none = λ i j p q l k z. ⊎_elim
-      (λ a. x.none i j (omega (arith, y.most)) q l a z)
+module _ (us vs : List (List ℕ)) (n h m : ℕ) (b : Option ℕ) (x : Standing us n h b) (e : vs ≡ drop h us) (g : h ≤ length us) where
+  at : (i : ℕ) → get_or vs i [] ≡ get_or us (h + i) []
+  at i = ap (λ (l : List (List ℕ)). get_or l i []) e ∙ get_or-drop h us i []
+
+  long : length vs ≡ length us - h
+  long = ap length e ∙ length-drop h us
+
+  -- below a number that is no greater than the best so far
+  below : (t : ℕ) → t ≤ unwrap_or b n → ((i j : ℕ) → h + i < t → i < length vs → j < i → j < m → get_or vs j [] ≡ get_or vs i [] → ⊥)
+      → (i j : ℕ) → i < t → i < length us → j < i → j < h + m → get_or us j [] ≡ get_or us i [] → ⊥
+  below t o y i j p q l k z = ⊎_elim
+      (λ a. x.none i j (omega arith) q l a z)
       (λ a.
       let i' : h + (i - h) ≡ i = omega arith in
       let j' : h + (j - h) ≡ j = omega arith in
-      y.none (i - h) (j - h) (omega arith) (omega (arith, long)) (omega arith) (omega arith)
+      y (i - h) (j - h) (omega arith) (omega (arith, long)) (omega arith) (omega arith)
       (at (j - h) ∙ ap (λ (k : ℕ). get_or us k []) j' ∙ z ∙ sym (at (i - h) ∙ ap (λ (k : ℕ). get_or us k []) i')))
-      (lt_or_ge j h);
-  hit = λ p. ⊎_elim
-      (λ q. subst (λ (k : ℕ). (k < length us) × Again us k) (sym q) (x.hit (omega arith)))
-      (λ q.
-      let w = y.hit q in
-      subst (λ (k : ℕ). (k < length us) × Again us k) (sym w.1)
-      (omega (arith, w.2, long), (h + w.3.0, omega (arith, w.3.1), sym (at w.3.0) ∙ w.3.2 ∙ at w.0)))
-      (eq-or-lt_of_le y.most);
-}
-  where
-    at : (i : ℕ) → get_or vs i [] ≡ get_or us (h + i) []
-    at i = ap (λ (l : List (List ℕ)). get_or l i []) e ∙ get_or-drop h us i []
+      (lt_or_ge j h)
 
-    long : length vs ≡ length us - h
-    long = ap length e ∙ length-drop h us
+  further : (c : Option ℕ) → Best vs m h (unwrap_or b n) c → Standing us n (h + m) (option_or c b)
+  further None y = record { none = below (unwrap_or b n) (omega arith) y.none; some = x.some }
+  further (Some k) y = record {
+    none = below k (omega (arith, y.some.0)) y.none;
+    some =
+        let w = y.some in
+        subst (λ (k : ℕ). (k < length us) × Again us k) (sym w.2)
+        (omega (arith, w.3, long), (h + w.4.0, omega (arith, w.4.1), sym (at w.4.0) ∙ w.4.2 ∙ at w.1));
+  }
 
-told : (us : List (List ℕ)) (n b : ℕ) → length us ≤ n
-    → ((i j : ℕ) → i < b → i < length us → j < i → get_or us j [] ≡ get_or us i [] → ⊥) → (b < n → (b < length us) × Again us b) → Repeats us (answer_of b n)
-told us n b l f g = by (ltb b n) refl
-  where
-    by : (t : Bool) → ltb b n ≡ t → Repeats us (cond t (At b) Nothing)
-    by true e = let x = g (ltb-true b n e) in (x.0, x.1, λ i j p q z. f i j p (omega (arith, x.0)) q z)
-    by false e = λ i j p q z. f i j (omega (arith, ltb-false b n e)) p q z
+-- nothing is left to be tried
+told : (us : List (List ℕ)) (n : ℕ) (b : Option ℕ) → length us ≤ n
+    → ((i j : ℕ) → i < unwrap_or b n → i < length us → j < i → get_or us j [] ≡ get_or us i [] → ⊥) → IfSome b (λ k. (k < length us) × Again us k) → Repeats us b
+told us n None l f g = λ i j p q z. f i j (omega arith) p q z
+told us n (Some b) l f g = (g.0, g.1, λ i j p q z. f i j p (omega (arith, g.0)) q z)
 
 -- from this place on: the batches before took h in, and the next begins at `at`
-pub record Batches (s : List ℕ) (from at h b : ℕ) : Type 0 where
+pub record Batches (s : List ℕ) (from at h : ℕ) (b : Option ℕ) : Type 0 where
   pub standing : Standing (uuids_from s from) (length s) h b
   pub rest : uuids_from s at ≡ drop h (uuids_from s from)
   pub enough : h ≤ length (uuids_from s from)
 
-pub batches_start : (s : List ℕ) (from : ℕ) → Batches s from from 0 (length s)
-batches_start s from = record {
-  standing = record { most = omega arith; none = λ i j h g l k e. omega arith; hit = λ h. absurd (omega arith) };
-  rest = refl;
-  enough = omega arith;
-}
+module _ (s : List ℕ) (from at h : ℕ) (b : Option ℕ) (x : Batches s from at h b) where
+  pub batches_end : unwrap_or b (length s) ≤ h → Repeats (uuids_from s from) b
+  batches_end g = told (uuids_from s from) (length s) b (few s from) (λ i j p q l z. x.standing.none i j p q l (omega arith) z) x.standing.some
 
-module _ (s : List ℕ) (from at h b : ℕ) (x : Batches s from at h b) where
-  pub batches_end : b ≤ h → Repeats (uuids_from s from) (answer_of b (length s))
-  batches_end g = told (uuids_from s from) (length s) b (few s from) (λ i j p q l z. x.standing.none i j p q l (omega arith) z) x.standing.hit
-
-  pub batches_over : uuids_from s at ≡ [] → Repeats (uuids_from s from) (answer_of b (length s))
+  pub batches_over : uuids_from s at ≡ [] → Repeats (uuids_from s from) b
   batches_over e =
       told (uuids_from s from) (length s) b (few s from)
-      (λ i j p q l z. x.standing.none i j p q l (omega (arith, simp length-drop at (ap length (sym x.rest ∙ e)))) z) x.standing.hit
+      (λ i j p q l z. x.standing.none i j p q l (omega (arith, simp length-drop at (ap length (sym x.rest ∙ e)))) z) x.standing.some
 
-  module _ (p : ℕ) (f : NextAt s at p) (w : Went) (y : Passing s p h b w) where
+  -- a batch as far as the best answer so far
+  module _ (p : ℕ) (f : NextAt s at p) (n : ℕ) (l : n ≡ unwrap_or b (length s)) (w : Went) (y : Passing s p h n w) where
     same : on_from s p ≡ drop h (uuids_from s from)
     same = sym f.next ∙ x.rest
 
-    pub batches_next : Batches s from w.next (h + w.members) w.best
+    pub batches_next : Batches s from w.next (h + w.members) (option_or w.hit b)
     batches_next = record {
-      standing = further (uuids_from s from) (on_from s p) (length s) h w.members b w.best x.standing same x.enough y.best;
+      standing = further (uuids_from s from) (on_from s p) (length s) h w.members b x.standing same x.enough w.hit (subst (λ (n : ℕ). Best (on_from s p) w.members h n w.hit) l y.best);
       rest = y.rest ∙ ap (drop w.members) same ∙ drop-drop w.members h (uuids_from s from);
       enough = omega (arith, y.enough, ap length same, length-drop h (uuids_from s from), x.enough);
     }

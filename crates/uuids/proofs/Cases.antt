@@ -4,10 +4,10 @@ use mathlib.Core.Path.{◌≡◌, refl, ap}
 use mathlib.Core.List.{List, [], ◌∷◌, ◌++◌, map}
 use native.Mathlib.Omega.{arith}
 use lib.ListN.{get_or, take, replicate}
+use Rattle.std.specs.Prelude.{Some, None}
 use Rattle.words.specs.Numbers.{number_low, bytes_low}
 use Rattle.fields.specs.Stored.{stored, fill_of, bytes_of}
 use Rattle.uuids.specs.Uuids.{uuids_among, uuids_from, Apart, Repeats}
-use Rattle.uuids.specs.declared.Repeat.TheVariants.{At, Nothing}
 
 -- a field of type k with n bytes x
 abbrev field : ℕ → ℕ → ℕ → List ℕ
@@ -46,7 +46,7 @@ differ : u 1 ≡ u 2 → ⊥
 differ e = let z : ◌≡◌ {A = ℕ} 1 2 = ap (λ (l : List ℕ). get_or l 0 0) e in omega arith
 
 -- of two that come again, the first
-first : Repeats (u 1 ∷ u 2 ∷ u 2 ∷ u 1 ∷ []) (At 2)
+first : Repeats (u 1 ∷ u 2 ∷ u 2 ∷ u 1 ∷ []) (Some 2)
 first = (omega arith, (1, omega arith, refl), apart)
   where
     apart : Apart (u 1 ∷ u 2 ∷ u 2 ∷ u 1 ∷ []) 2
@@ -55,7 +55,7 @@ first = (omega arith, (1, omega arith, refl), apart)
     apart (suc zero) (suc j) h g e = absurd (omega arith)
     apart (suc (suc i)) j h g e = absurd (omega arith)
 
-none : Repeats (u 1 ∷ u 2 ∷ []) Nothing
+none : Repeats (u 1 ∷ u 2 ∷ []) None
 none zero j h g e = absurd (omega arith)
 none (suc zero) zero h g e = differ e
 none (suc zero) (suc j) h g e = absurd (omega arith)

@@ -1,7 +1,6 @@
 -- The table knows each member and nothing else: from where a member's look-up starts no slot is free up to its own, and that stays so when another takes a free slot.
 use Prim.Native.Nat.{ℕ, zero, suc, ◌+◌, ◌*◌, ◌≤◌, ◌<◌}
 use mathlib.Core.Path.{◌≡◌, refl, sym, ap, ◌∙◌, subst}
-use mathlib.Core.Bool.{Bool, true, false, true≢false}
 use mathlib.Core.Logic.{⊎_elim}
 use mathlib.Core.List.{List, []}
 use native.Mathlib.Nat.{eq-or-lt_of_le}
@@ -9,7 +8,7 @@ use native.Mathlib.Omega.{arith}
 use lib.ListN.{length, get_or, set, replicate, length-set, length-replicate}
 use lib.Seq.{get_or-set_same, get_or-set_other}
 use Rattle.words.proofs.Either.{lt_or_ge, eq_or_ne}
-use Rattle.uuids.specs.Table.{Tells, id_at, start_of, place_of, Taken, Holds, Other, Slots, Looks}
+use Rattle.uuids.specs.Table.{id_at, start_of, place_of, Taken, Holds, Other, Slots, Looks}
 use Rattle.uuids.specs.Batches.{NoMembers}
 use Rattle.uuids.specs.declared.table.Look.TheVariants.{Known, Free, Full}
 
@@ -18,36 +17,8 @@ pub record Seen (s : List ℕ) (base : ℕ) (slots u : List ℕ) (i : ℕ) : Typ
   pub from : start_of u ≤ i
   pub others : (j : ℕ) → start_of u ≤ j → j < i → Other s base slots u j
 
-module _ (s : List ℕ) (base : ℕ) (slots u : List ℕ) where
-  pub seen_start : (i : ℕ) → i ≡ start_of u → Seen s base slots u i
-  seen_start i e = record { from = omega arith; others = λ j h g. absurd (omega arith) }
-
-  module _ (i : ℕ) (x : Seen s base slots u i) where
-    pub seen_free : i < 26624 → get_or slots i 0 ≡ 0 → Looks s base slots u (Free i)
-    seen_free h z = (x.from, h, z, x.others)
-
-    pub seen_full : 26624 ≤ i → Looks s base slots u Full
-    seen_full h j g l = x.others j g (omega arith)
-
-    module _ (t : Taken slots i) (r : Bool) (q : Tells r (id_at s (place_of base (get_or slots i 0)) ≡ u)) where
-      pub seen_known : r ≡ true → Looks s base slots u Known
-      seen_known e = (i, (t, by r q e))
-        where
-          by : (r : Bool) → Tells r (id_at s (place_of base (get_or slots i 0)) ≡ u) → r ≡ true → id_at s (place_of base (get_or slots i 0)) ≡ u
-          by true q e = q
-          by false q e = absurd (true≢false (sym e))
-
-      pub seen_next : r ≡ false → Seen s base slots u (i + 1)
-      seen_next e = record {
-        from = omega (arith, x.from);
-        others = λ j h g.
-            let l : j ≤ i = omega arith in
-            ⊎_elim (λ z. subst (Other s base slots u) (sym z) (t, by r q e)) (λ z. x.others j h z) (eq-or-lt_of_le l);
-      }
-        where
-          by : (r : Bool) → Tells r (id_at s (place_of base (get_or slots i 0)) ≡ u) → r ≡ false → id_at s (place_of base (get_or slots i 0)) ≡ u → ⊥
-          by true q e = absurd (true≢false e)
-          by false q e = q
+pub seen_free : (s : List ℕ) (base : ℕ) (slots u : List ℕ) (i : ℕ) → Seen s base slots u i → i < 26624 → get_or slots i 0 ≡ 0 → Looks s base slots u (Free i)
+seen_free s base slots u i x h z = (x.from, h, z, x.others)
 
 -- slot i is u's, and from the start of its look-up on none before it is free
 pub record Own (s : List ℕ) (base : ℕ) (slots u : List ℕ) : Type 0 where

@@ -6,24 +6,18 @@ use mathlib.Core.Logic.{⊎_elim}
 use mathlib.Core.List.{List, [], ◌∷◌}
 use native.Mathlib.Nat.{eq-or-lt_of_le}
 use native.Mathlib.Omega.{arith}
-use lib.ListN.{length, get_or, set, drop, length-drop}
+use lib.ListN.{length, get_or, drop, length-drop}
 use types.Run.{OneOf}
 use denote.Enum.Declared.{tag_of}
 use Rattle.uuids.specs.Uuids.{uuids_from}
-use Rattle.uuids.specs.Table.{id_at, start_of, place_of, Looks, TakenIn}
-use Rattle.uuids.specs.Batches.{NextAt, Stepping, NoMembers, Best, on_from, Passing, went_to}
-use Rattle.uuids.specs.declared.next.Next.{Next}
+use Rattle.uuids.specs.Table.{id_at, place_of, Looks, TakenIn}
+use Rattle.uuids.specs.Batches.{NextAt, Best, on_from, Passing}
+use Rattle.std.specs.Prelude.{Option, Some, None}
+use Rattle.uuids.specs.declared.batch.Went.{Went}
 use Rattle.uuids.specs.declared.table.Look.{Look}
 use Rattle.uuids.specs.declared.table.Look.TheVariants.{Known, Free, Full}
 use Rattle.uuids.specs.contracts.table.Look as looks
-use Rattle.uuids.proofs.Members.{Table, table_start, table_more, is_known, not_free, not_full}
-
--- what the search for the next UUID said
-pub found : (s : List ℕ) (at : ℕ) (w : Next) (p : ℕ) → Stepping s at w → w ≡ Next.At p → NextAt s at p
-found s at w p t e = subst (Stepping s at) e t
-
-pub over : (s : List ℕ) (at : ℕ) (w : Next) → Stepping s at w → w ≡ Next.Over → uuids_from s at ≡ []
-over s at w t e = subst (Stepping s at) e t
+use Rattle.uuids.proofs.Members.{Table, table_more, is_known, not_free, not_full}
 
 -- the first of what is left
 uncons : (us : List (List ℕ)) (m : ℕ) (a : List ℕ) (l : List (List ℕ)) → drop m us ≡ a ∷ l → (m < length us) × (get_or us m [] ≡ a) × (drop (suc m) us ≡ l)
@@ -50,59 +44,38 @@ pub record Passes (s : List ℕ) (base number : ℕ) (slots : List ℕ) (at n : 
   pub on : at ≡ base + 27 + 16 * blocks
   pub none : (k j : ℕ) → k < i → j < k → j < members → get_or (on_from s base) j [] ≡ get_or (on_from s base) k [] → ⊥
 
-pub passes_start : (s : List ℕ) (base number : ℕ) (slots : List ℕ) (first : ℕ) → base + 27 ≤ length s → NoMembers slots → (first ≡ start_of (id_at s base)) × (first < 24576)
-    → Passes s base number (set slots first 1) (base + 27) (number + 1) true (base + 27) 1
-passes_start s base number slots first h z f = record {
-  i = 1;
-  is = refl;
-  table = table_more s base slots (on_from s base) 0 (table_start s base slots (on_from s base) z) (id_at s base) first
-      (omega (arith, f.0), omega (arith, f.1), z.zero first, λ j g l. absurd (omega (arith, f.0))) refl 1 (omega arith) (ap (id_at s) (begin base)) (omega arith);
-  rest = refl;
-  behind = refl;
-  some = omega arith;
-  few = omega arith;
-  enough = omega arith;
-  all = λ e. (refl, refl);
-  blocks = 0;
-  on = omega arith;
-  none = λ k j g l m e. omega arith;
-}
-  where
-    begin : (base : ℕ) → place_of base 1 ≡ base
-    begin base = omega arith
-
 module _ (s : List ℕ) (base number limit : ℕ) (slots : List ℕ) (at n : ℕ) (growing : Bool) (next members : ℕ) (x : Passes s base number slots at n growing next members) where
   abbrev us : List (List ℕ)
   us = on_from s base
 
-  ended : (b : ℕ) → Best us members number limit b → Passing s base number limit (went_to b next members)
+  abbrev went : Option ℕ → Went
+  went b = record { hit = b; next = next; members = members }
+
+  ended : (b : Option ℕ) → Best us members number limit b → Passing s base number limit (went b)
   ended b e = record { best = e; rest = x.behind; some = x.some; enough = omega (arith, x.few, x.enough) }
 
-  pub passes_over : uuids_from s at ≡ [] → Passing s base number limit (went_to limit next members)
-  passes_over e = ended limit (record {
-    most = omega arith;
+  pub passes_over : uuids_from s at ≡ [] → Passing s base number limit (went None)
+  passes_over e = ended None (record {
     none = λ k j h g l m z. x.none k j (omega (arith, all_gone us x.i (sym x.rest ∙ e))) l m z;
-    hit = λ h. absurd (omega arith);
+    some = tt;
   })
 
-  pub passes_end : limit ≤ n → Passing s base number limit (went_to limit next members)
-  passes_end b = ended limit (record {
-    most = omega arith;
+  pub passes_end : limit ≤ n → Passing s base number limit (went None)
+  passes_end b = ended None (record {
     none = λ k j h g l m z. x.none k j (omega (arith, x.is)) l m z;
-    hit = λ h. absurd (omega arith);
+    some = tt;
   })
 
   module _ (p : ℕ) (f : NextAt s at p) where
     here : (x.i < length us) × (get_or us x.i [] ≡ id_at s p) × (drop (suc x.i) us ≡ uuids_from s (p + 27))
     here = uncons us x.i (id_at s p) (uuids_from s (p + 27)) (sym x.rest ∙ f.next)
 
-    pub passes_known : Looks s base slots (id_at s p) Known → n < limit → Passing s base number limit (went_to n next members)
+    pub passes_known : Looks s base slots (id_at s p) Known → n < limit → Passing s base number limit (went (Some n))
     passes_known l b =
         let t = is_known s base slots us members x.table (id_at s p) l in
-        ended n (record {
-          most = omega arith;
+        ended (Some n) (record {
           none = λ k j h g l m z. x.none k j (omega (arith, x.is)) l m z;
-          hit = λ h. (x.i, x.is, here.0, (t.0, omega (arith, t.1, x.few), t.2 ∙ sym here.1));
+          some = (b, x.i, x.is, here.0, (t.0, omega (arith, t.1, x.few), t.2 ∙ sym here.1));
         })
 
     module _ (l : Look) (y : Looks s base slots (id_at s p) l) (o : OneOf (1 ∷ 2 ∷ []) (tag_of looks.the_type l)) where

@@ -1,5 +1,5 @@
 -- The 16 bytes at two places are the same exactly when both halves are, read as numbers; and the words that are read at a place are those of its 16 bytes.
-use Prim.Native.Nat.{ℕ, ◌+◌, ◌*◌, ◌/◌, ◌%◌, ◌^◌, ◌≤◌}
+use Prim.Native.Nat.{ℕ, ◌+◌, ◌*◌, ◌/◌, ◌%◌, ◌≤◌}
 use mathlib.Core.Path.{◌≡◌, sym, ap, ap₂, ◌∙◌}
 use mathlib.Core.Bool.{Bool, true, false}
 use mathlib.Core.List.{List, ◌++◌}
@@ -11,7 +11,6 @@ use borrow.Author.Tests.{eqb-true, eqb-false}
 use Rattle.words.specs.Numbers.{number_low, Bytes}
 use Rattle.words.proofs.ByteLaws.{bytes_take, bytes_drop}
 use Rattle.words.proofs.NumberLaws.{number_inj}
-use Rattle.words.proofs.Places.{four_at_lem, eight_at}
 use Rattle.words.proofs.SliceLaws.{part_of}
 use Rattle.uuids.specs.Table.{Tells, id_at, start_of}
 
@@ -19,19 +18,11 @@ use Rattle.uuids.specs.Table.{Tells, id_at, start_of}
 within : (s : List ℕ) (p j k : ℕ) → j + k ≤ 16 → take k (drop j (id_at s p)) ≡ take k (drop (p + j) s)
 within s p j k h = part_of k j 16 (drop p s) h ∙ ap (λ (l : List ℕ). take k l) (drop-drop j p s)
 
--- eight bytes are two words
-pub two_words : (s : List ℕ) (p : ℕ) → p + 8 ≤ length s → number_low (take 4 (drop p s)) + 2 ^ 32 * number_low (take 4 (drop (p + 4) s)) ≡ number_low (take 8 (drop p s))
-two_words s p h = rw (four_at_lem s p (omega arith), four_at_lem s (p + 4) (omega arith)) (sym (eight_at s p h))
-
 abbrev num : List ℕ → ℕ → ℕ
 num s p = number_low (take 8 (drop p s))
 
 halves : (s : List ℕ) (p : ℕ) → id_at s p ≡ take 8 (drop p s) ++ take 8 (drop (p + 8) s)
 halves s p = take-add 8 8 (drop p s) ∙ ap (λ (l : List ℕ). take 8 (drop p s) ++ take 8 l) (drop-drop 8 p s)
-
--- the first halves differ
-pub same_not : (s : List ℕ) (p q : ℕ) → (num s p ≡ num s q → ⊥) → id_at s p ≡ id_at s q → ⊥
-same_not s p q n z = n (ap number_low (sym (part_of 8 0 16 (drop p s) (omega arith)) ∙ ap (λ (l : List ℕ). take 8 l) z ∙ part_of 8 0 16 (drop q s) (omega arith)))
 
 module _ (s : List ℕ) (b : Bytes s) where
   eight_same : (p q : ℕ) → p + 8 ≤ length s → q + 8 ≤ length s → num s p ≡ num s q → take 8 (drop p s) ≡ take 8 (drop q s)
@@ -55,3 +46,7 @@ pub start_read : (s : List ℕ) (p a b c d : ℕ) → a ≡ number_low (take 4 (
 unfolding start_of
 start_read s p a b c d e f g h =
     rw (part_of 4 0 16 (drop p s) (omega arith), within s p 4 4 (omega arith), within s p 8 4 (omega arith), within s p 12 4 (omega arith), e, f, g, h)
+
+-- sums modulo 2^32, term by term
+pub wrapped : (a b c d : ℕ) → (((a + b * 3 % 4294967296) % 4294967296 + c * 5 % 4294967296) % 4294967296 + d * 7 % 4294967296) % 4294967296 ≡ (a + 3 * b + 5 * c + 7 * d) % 4294967296
+wrapped a b c d = omega arith

@@ -6,10 +6,8 @@ use mathlib.Core.List.{List, [], ◌∷◌, ◌++◌}
 use native.Mathlib.Omega.{arith}
 use lib.Dec.{eqb, leb}
 use lib.ListN.{length, take, drop}
-use borrow.Author.Tests.{le-leb, lt-leb, eqb-true}
-use Rattle.words.specs.Numbers.{number_low}
+use borrow.Author.Tests.{le-leb, lt-leb, eqb-true, eq-eqb, ne_eqb}
 use Rattle.words.proofs.EachLaws.{both}
-use Rattle.words.proofs.Places.{four_at, four_at_lem}
 use Rattle.fields.specs.Stored.{room_of}
 use Rattle.fields.specs.Step.{len_at, kind_at, data_at}
 use Rattle.uuids.specs.Uuids.{is_uuid_at, uuid_at, uuids_among, uuids_from}
@@ -85,9 +83,6 @@ pub record Seeks (s : List ℕ) (from at : ℕ) : Type 0 where
   pub blocks : ℕ
   pub on : at ≡ from + 16 * blocks
 
-pub seeks_start : (s : List ℕ) (from : ℕ) → Seeks s from from
-seeks_start s from = record { same = refl; blocks = 0; on = omega arith }
-
 module _ (s : List ℕ) (from at : ℕ) (x : Seeks s from at) where
   pub seeks_over : length s < at + room_of (len_at s at) → uuids_from s from ≡ []
   seeks_over h = x.same ∙ none_fits s at h
@@ -105,10 +100,17 @@ module _ (s : List ℕ) (from at : ℕ) (x : Seeks s from at) where
       on = omega (arith, x.on);
     }
 
--- what is read at a place is the length there
-pub length_read : (s : List ℕ) (p n : ℕ) → p + 16 ≤ length s → n ≡ number_low (four_at s p) → n ≡ len_at s p
-length_read s p n h e = e ∙ ap number_low (sym (four_at_lem s p (omega arith)))
+-- the test, by what is read at a place
+module _ (s : List ℕ) (p n : ℕ) (e : n ≡ len_at s p) where
+  pub is_one : kind_at s p ≡ 0x01 → n ≡ 16 → is_uuid_at s p ≡ true
+  is_one k l = rw (eq-eqb (kind_at s p) 0x01 k, eq-eqb (len_at s p) 16 (sym e ∙ l))
 
--- and the test goes by it
-pub is_uuid_read : (s : List ℕ) (p n : ℕ) (b : Bool) → n ≡ len_at s p → b ≡ eqb (kind_at s p) 0x01 && eqb n 16 → is_uuid_at s p ≡ b
-is_uuid_read s p n b e t = sym (t ∙ ap (λ (k : ℕ). eqb (kind_at s p) 0x01 && eqb k 16) e)
+  pub other_length : (n ≡ 16 → ⊥) → is_uuid_at s p ≡ false
+  other_length l = by (eqb (kind_at s p) 0x01)
+    where
+      by : (b : Bool) → (b && eqb (len_at s p) 16) ≡ false
+      by true = ne_eqb (len_at s p) 16 (λ z. l (e ∙ z))
+      by false = refl
+
+pub other_kind : (s : List ℕ) (p : ℕ) → (kind_at s p ≡ 0x01 → ⊥) → is_uuid_at s p ≡ false
+other_kind s p k = rw (ne_eqb (kind_at s p) 0x01 k)

@@ -1,9 +1,7 @@
 -- The UUIDs that stand in a body from a place on, and the first of them that an earlier one is the same as (document 02, Q-7). Nothing here speaks of how it is found.
-use Rattle.std.specs.Prelude.{ℕ, zero, suc, ◌+◌, ◌<◌, ◌≡◌, Bool, cond, ◌&&◌, List, [], ◌∷◌, ◌++◌, eqb, leb, length, get_or}
+use Rattle.std.specs.Prelude.{ℕ, zero, suc, ◌+◌, ◌<◌, ◌≡◌, Bool, cond, ◌&&◌, List, [], ◌∷◌, ◌++◌, eqb, leb, length, get_or, Option, None, Some}
 use Rattle.fields.specs.Stored.{room_of}
 use Rattle.fields.specs.Step.{len_at, kind_at, data_at}
-use Rattle.uuids.specs.declared.Repeat.{Repeat}
-use Rattle.uuids.specs.declared.Repeat.TheVariants.{At, Nothing}
 
 -- the field at place p is a UUID: of type 01, with 16 bytes
 abbrev pub is_uuid_at : List ℕ → ℕ → Bool
@@ -31,6 +29,6 @@ abbrev pub Apart : List (List ℕ) → ℕ → Type 0
 Apart us n = (i j : ℕ) → i < n → j < i → get_or us j [] ≡ get_or us i [] → ⊥
 
 -- number i is the first that an earlier one is the same as; or no two are the same
-abbrev pub Repeats : List (List ℕ) → Repeat → Type 0
-Repeats us (At i) = (i < length us) × Again us i × Apart us i
-Repeats us Nothing = Apart us (length us)
+abbrev pub Repeats : List (List ℕ) → Option ℕ → Type 0
+Repeats us (Some i) = (i < length us) × Again us i × Apart us i
+Repeats us None = Apart us (length us)

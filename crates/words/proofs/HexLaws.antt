@@ -1,10 +1,15 @@
 -- Hex digits: what the definitions come to at every byte, and at every value; all computed.
-use mathlib.Core.Path.{◌≡◌, refl, subst}
+use mathlib.Core.Path.{◌≡◌, refl, sym, ap, subst}
 use mathlib.Core.Bool.{Bool, true, false, not, cond, ◌&&◌, ◌||◌}
-use Prim.Native.Nat.{ℕ, ◌<◌, ◌≤◌}
+use mathlib.Core.List.{List, [], ◌∷◌}
+use Prim.Native.Nat.{ℕ, suc, ◌<◌, ◌≤◌}
+use native.Mathlib.Omega.{arith}
 use lib.Dec.{T, ltb, leb, eqb, eqb→eq}
-use borrow.Author.Tests.{le-ltb}
-use Rattle.words.specs.Hex.{hex_value, hex_digit}
+use lib.ListN.{length}
+use borrow.Author.Tests.{ltb-true, ltb-false, lt-ltb, le-ltb}
+use Rattle.std.specs.Prelude.{Option, Some, None, is_some}
+use Rattle.std.specs.Option.{unwrap_or}
+use Rattle.words.specs.Hex.{lower_digits, upper_digits, index_in, hex_value, hex_digit}
 use Rattle.words.proofs.Every.{all, every, agree}
 
 -- two functions that agree at every number from low to below high
@@ -33,3 +38,44 @@ digits_are b h =
 pub read_back : (v : ℕ) → v < 16 → hex_value (hex_digit v) ≡ v
 unfolding hex_value hex_digit
 read_back = agree (λ v. hex_value (hex_digit v)) (λ v. v) 16 tt
+
+-- ---- what a byte is told to be
+abbrev pub told : ℕ → Option ℕ
+told b = cond (ltb (hex_value b) 16) (Some (hex_value b)) None
+
+pub digit_told : (b v : ℕ) → hex_value b ≡ v → v < 16 → Some v ≡ told b
+digit_told b v e h = rw (lt-ltb (hex_value b) 16 (omega arith)) (ap Some (sym e))
+
+pub none_told : (b : ℕ) → 16 ≤ hex_value b → None ≡ told b
+none_told b h = rw (le-ltb (hex_value b) 16 h)
+
+pub some_told : (b : ℕ) → is_some (told b) ≡ ltb (hex_value b) 16
+some_told b = by (ltb (hex_value b) 16)
+  where
+    by : (t : Bool) → is_some (cond t (Some (hex_value b)) None) ≡ t
+    by true = refl
+    by false = refl
+
+-- no byte has a value above 16
+index_most : (b : ℕ) (l : List ℕ) → index_in b l ≤ length l
+index_most b [] = omega arith
+index_most b (d ∷ l) = by (eqb b d) (index_most b l)
+  where
+    by : (t : Bool) → index_in b l ≤ length l → cond t 0 (suc (index_in b l)) ≤ suc (length l)
+    by true h = omega arith
+    by false h = omega arith
+
+value_most : (b : ℕ) → hex_value b ≤ 16
+unfolding hex_value
+value_most b = by (ltb (index_in b lower_digits) 16) refl
+  where
+    by : (t : Bool) → ltb (index_in b lower_digits) 16 ≡ t → cond t (index_in b lower_digits) (index_in b upper_digits) ≤ 16
+    by true e = omega (arith, ltb-true (index_in b lower_digits) 16 e)
+    by false e = index_most b upper_digits
+
+pub told_or : (b : ℕ) → unwrap_or (told b) 16 ≡ hex_value b
+told_or b = by (ltb (hex_value b) 16) refl
+  where
+    by : (t : Bool) → ltb (hex_value b) 16 ≡ t → unwrap_or (cond t (Some (hex_value b)) None) 16 ≡ hex_value b
+    by true e = refl
+    by false e = omega (arith, ltb-false (hex_value b) 16 e, value_most b)

@@ -1,4 +1,4 @@
--- A list of hex digits comes to a number exactly where it spells it, every number is spelled, and a loop can sum it up digit by digit: by recursion on the list, and
+-- A list of hex digits comes to a number exactly where it spells it, every number is spelled, and it can be summed up digit by digit: by recursion on the list, and
 -- on the number of digits.
 use mathlib.Core.Path.{◌≡◌, refl, sym, ap, ap₂, ◌∙◌}
 use mathlib.Core.Logic.{◌↔◌}
@@ -7,12 +7,10 @@ use mathlib.Core.List.{List, [], ◌∷◌, ◌++◌, map}
 use Prim.Native.Nat.{ℕ, zero, suc, ◌+◌, ◌-◌, ◌*◌, ◌/◌, ◌%◌, ◌^◌, ◌<◌, ◌≤◌}
 use native.Mathlib.Omega.{arith}
 use native.Mathlib.Nat.{mul_assoc, mul_left_comm, add_comm, mod-eq_of_lt, pow-succ', one-le-pow, add-mul-div_right, mul-add-mod_self_right}
-use native.Mathlib.Numerals.{add-one}
 use lib.Arith.{digits_lt, digits_div, mod-mul}
 use lib.Dec.{ltb}
-use lib.ListN.{length, get_or, take, length-append}
+use lib.ListN.{length, length-append}
 use lib.Pow.{pow-add}
-use lib.Seq.{take-suc}
 use borrow.Author.Tests.{ltb-true, lt-ltb}
 use Rattle.words.specs.Hex.{hex_value, hex_digit, Digits, all_digits, hex_number, digit_values, Spells}
 use Rattle.words.proofs.EachLaws.{both, and, each}
@@ -32,13 +30,9 @@ one_more (x ∷ s) d =
     let e : hex_value x * 16 ^ length (s ++ (d ∷ [])) ≡ 16 * (hex_value x * 16 ^ length s) = ap (λ (p : ℕ). hex_value x * p) (longer s d) ∙ mul_left_comm (hex_value x) 16 (16 ^ length s) in
     omega (arith, ih, e)
 
--- a turn of the loop, modulo 2^32
-pub number_next : (s : List ℕ) (i n v r : ℕ) → i < length s → n ≡ hex_number (take i s) % 2 ^ 32 → v ≡ hex_value (get_or s i 0) → r ≡ (16 * n + v) % 2 ^ 32
-    → r ≡ hex_number (take (i + 1) s) % 2 ^ 32
-number_next s i n v r h e f g =
-    let l : take (i + 1) s ≡ take i s ++ (get_or s i 0 ∷ []) = rw add-one (take-suc s i 0 h) in
-    let m : hex_number (take (i + 1) s) ≡ 16 * hex_number (take i s) + hex_value (get_or s i 0) = ap hex_number l ∙ one_more (take i s) (get_or s i 0) in
-    omega (arith, m, e, f, g)
+-- modulo 2^32
+pub number_next : (s : List ℕ) (n b r : ℕ) → n ≡ hex_number s % 2 ^ 32 → r ≡ (16 * n + hex_value b) % 2 ^ 32 → r ≡ hex_number (s ++ (b ∷ [])) % 2 ^ 32
+number_next s n b r e g = omega (arith, one_more s b, e, g)
 
 -- ---- what is spelled
 pos : (n : ℕ) → 0 < 16 ^ n

@@ -1,5 +1,6 @@
 pub mod ByteLaws
 pub mod NumberLaws
+pub mod Conversions
 pub mod RotationLaws
 pub mod XorLaws
 pub mod SliceLaws
@@ -10,3 +11,4 @@ pub mod HexLaws
 pub mod HexNumbers
 pub mod Tables
 pub mod EachLaws
+pub mod FromFn

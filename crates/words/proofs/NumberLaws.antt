@@ -115,11 +115,7 @@ bytes_high_sized n x =
     let r : Sized n (bytes_low n x) = bytes_sized n x in
     record { long = length-reverse (bytes_low n x) ∙ r.long; bytes = bytes_reverse r.bytes }
 
--- the word of four bytes, as the code sums it
+-- the word of four bytes, as a sum
 pub low_word : (a b c d : ℕ) → a + 256 * (b + 256 * (c + 256 * d)) ≡ number_low (a ∷ b ∷ c ∷ d ∷ [])
 unfolding number_low
 low_word a b c d = omega arith
-
-pub high_word : (a b c d : ℕ) → d + 256 * (c + 256 * (b + 256 * a)) ≡ number_high (a ∷ b ∷ c ∷ d ∷ [])
-unfolding number_high
-high_word a b c d = low_word d c b a

@@ -5,6 +5,7 @@ use native.Mathlib.Nat.{mul-mod_left, add-zero, add_comm, mod-lt, mod_self, mod-
 use native.Mathlib.Omega.{arith}
 use lib.Pow.{mod-pow-add, shl-shr, shr_lt, high, low, split, pow_pos, pow-add}
 use lib.Bits.{bit_or, or_shifted_r, or_self}
+use Rattle.std.proofs.lemmas.Nat.{or_comm}
 use Rattle.words.specs.Rotation.{rotate_right, rotate_left}
 
 -- x, a word of m + n bits, with its m low bits on top
@@ -34,17 +35,20 @@ right_shifts w (suc k) x h hx =
     let d : (w - suc k) % w ≡ w - suc k = mod-eq_of_lt (omega arith) in
     rw d (halves (suc k) (w - suc k) x (omega arith) hx)
 
-pub left_shifts : (w k x : ℕ) → k < w → x < 2 ^ w → bit_or (x / 2 ^ ((w - k) % w)) (x * 2 ^ k % 2 ^ w) ≡ rotate_left w k x
+left_turned : (w k x : ℕ) → k < w → x < 2 ^ w → bit_or (x / 2 ^ ((w - k) % w)) (x * 2 ^ k % 2 ^ w) ≡ rotate_left w k x
 unfolding rotate_left
-left_shifts w zero x h hx =
+left_turned w zero x h hx =
     let z : w - 0 ≡ w = omega arith in
     let d : (w - 0) % w ≡ 0 = ap (λ (k : ℕ). k % w) z ∙ mod_self w in
     let l : x % 2 ^ (w - 0) ≡ x = ap (λ (k : ℕ). x % 2 ^ k) z ∙ mod-eq_of_lt hx in
     let q : x / 2 ^ (w - 0) ≡ 0 = ap (λ (k : ℕ). x / 2 ^ k) z ∙ div-eq_of_lt hx in
     rw d (still w x hx ∙ sym (rw (l, q) (omega arith)))
-left_shifts w (suc k) x h hx =
+left_turned w (suc k) x h hx =
     let d : (w - suc k) % w ≡ w - suc k = mod-eq_of_lt (omega arith) in
     rw d (halves (w - suc k) (suc k) x (omega arith) hx)
+
+pub left_shifts : (w k x : ℕ) → k < w → x < 2 ^ w → bit_or (x * 2 ^ k % 2 ^ w) (x / 2 ^ ((w - k) % w)) ≡ rotate_left w k x
+left_shifts w k x h hx = or_comm (x * 2 ^ k % 2 ^ w) (x / 2 ^ ((w - k) % w)) ∙ left_turned w k x h hx
 
 back : (m n x : ℕ) → x < 2 ^ (n + m) → turned n m (turned m n x) ≡ x
 back m n x h =

@@ -1,4 +1,4 @@
-// Words and bytes: what every layer above stands on.
+// Words and bytes: what every layer above stands on. Much is std's own, under a contract in the words of the definitions here.
 #![tactic(auto)]
 
 pub mod hex;

@@ -1,15 +1,15 @@
 -- `body::judge` meets its contract: where the fields pass, the UUIDs decide.
-use mathlib.Core.Path.{sym, ◌∙◌}
-use Rattle.body.proofs.Judging.{fields_not, some_same, none_same}
+use Rattle.std.proofs.lemmas.Result.{err_from_is_err_and}
+use Rattle.body.proofs.Judging.{judged_is}
 use Rattle.body.proofs.judge.Goals as goal
 
-pub returns-in_default : goal.returns-in_default
-returns-in_default c = fields_not c.args.body.now (sym c.judge_fields.ensures ∙ c.in_default.is)
+pub returns-in_err-counts : goal.returns-in_err-counts
+returns-in_err-counts c =
+    let p = err_from_is_err_and c.from_residual.result c.from_residual.ensures.1 in
+    rw (p.1, ← judged_is c.args.body.now, ← c.judge_fields.ensures, c.in_err-counts.was)
 
 pub returns-then-uuids_differ : goal.returns-then-uuids_differ
-returns-then-uuids_differ c =
-    none_same c.args.body.now _ _ (sym c.judge_fields.ensures ∙ c.in-Counts.is) c.uuids_differ.result c.uuids_differ.ensures c.if-uuids_differ.true
+returns-then-uuids_differ c = rw (← judged_is c.args.body.now, ← c.judge_fields.ensures, c.in_ok-counts.was, ← c.uuids_differ.ensures, c.if-uuids_differ.true)
 
-pub returns : goal.returns
-returns c =
-    some_same c.args.body.now _ _ (sym c.judge_fields.ensures ∙ c.in-Counts.is) c.uuids_differ.result c.uuids_differ.ensures c.if-uuids_differ.false
+pub returns-else-uuids_differ : goal.returns-else-uuids_differ
+returns-else-uuids_differ c = rw (← judged_is c.args.body.now, ← c.judge_fields.ensures, c.in_ok-counts.was, ← c.uuids_differ.ensures, c.if-uuids_differ.false)

@@ -4,8 +4,8 @@ use lib.ListN.{length}
 use Rattle.body.proofs.Stands.{Stands}
 use Rattle.body.proofs.sections.Given as goal
 
-abbrev pub invariant-loop-c : goal.invariant-loop-c
-invariant-loop-c l = Stands l.body l.c l.x l.headers l.records
+abbrev pub invariant-loop-field : goal.invariant-loop-field
+invariant-loop-field l = Stands l.body l.c l.x
 
-abbrev pub decreases-loop-c : goal.decreases-loop-c
-decreases-loop-c l = length l.body - l.c.place
+abbrev pub decreases-loop-field : goal.decreases-loop-field
+decreases-loop-field l = length l.body - l.c.place

@@ -1,38 +1,28 @@
 -- `body::version_first` meets its contract: what the step at the start gives says whether the first field is Version.
 use mathlib.Core.Path.{sym, ap, ◌∙◌}
 use native.Mathlib.Omega.{arith}
-use Rattle.text.proofs.Tests.{tests}
-use Rattle.fields.specs.Step.{start, step_of}
+use borrow.Author.Tests.{eq-eqb}
+use Rattle.std.proofs.Common.{Ok}
+use Rattle.std.proofs.lemmas.Bool.Decides.{nat_tests}
+use Rattle.fields.specs.Step.{step_of}
 use Rattle.fields.proofs.Outcomes.{forward}
-use Rattle.body.proofs.FirstField.{version_took, version_none}
-use borrow.Author.Rules.{rules}
+use Rattle.body.proofs.FirstField.{version_took}
 use Rattle.body.proofs.version_first.Goals as goal
-
-pub returns-in_default : goal.returns-in_default
-returns-in_default c =
-    let s = c.args.body.now in
-    version_none s _ (c.step.ensures ∙ ap (step_of s) c.start.ensures) (search rules)
-
-pub returns-then-kind-ne0 : goal.returns-then-kind-ne0
-returns-then-kind-ne0 c =
-    let s = c.args.body.now in
-    let took = ap (step_of s) (sym c.start.ensures) ∙ sym c.step.ensures ∙ c.in-Took.is in
-    rw (← version_took s _ _ _ took) (search tests)
-
-pub returns-then-len-ne2 : goal.returns-then-len-ne2
-returns-then-len-ne2 c =
-    let s = c.args.body.now in
-    let took = ap (step_of s) (sym c.start.ensures) ∙ sym c.step.ensures ∙ c.in-Took.is in
-    rw (← version_took s _ _ _ took) (search tests)
+use Rattle.body.proofs.version_first.Goals.{then-first-eq0, else-first-eq0}
 
 pub bounds-body-6 : goal.bounds-body-6
-bounds-body-6 c =
-    let s = c.args.body.now in
-    let took = ap (step_of s) (sym c.start.ensures) ∙ sym c.step.ensures ∙ c.in-Took.is in
-    omega (arith, forward s start _ _ _ took)
+bounds-body-6 c = omega (arith, forward c.args.body.now c.start.result _ (sym c.in-Ok-Some.ensures ∙ ap Ok c.in-Ok-Some.field-0-is))
 
-pub returns : goal.returns
-returns c =
+pub returns-then-first-eq2 : goal.returns-then-first-eq2
+returns-then-first-eq2 c =
     let s = c.args.body.now in
-    let took = ap (step_of s) (sym c.start.ensures) ∙ sym c.step.ensures ∙ c.in-Took.is in
-    rw (← version_took s _ _ _ took) (search tests)
+    rw (← version_took s _ (ap (step_of s) (sym c.start.ensures) ∙ sym c.in-Ok-Some.ensures ∙ ap Ok c.in-Ok-Some.field-0-is), eq-eqb _ _ c.if-first-eq2.true.0, eq-eqb _ _ c.if-first-eq2.true.1)
+
+pub returns-else-first-eq2 : goal.returns-else-first-eq2
+returns-else-first-eq2 c =
+    let s = c.args.body.now in
+    rw (← version_took s _ (ap (step_of s) (sym c.start.ensures) ∙ sym c.in-Ok-Some.ensures ∙ ap Ok c.in-Ok-Some.field-0-is))
+    (elim c.if-first-eq0.branch [
+      | then-first-eq0 w ↦ grind (arith, nat_tests)
+      | else-first-eq0 w ↦ grind (arith, nat_tests)
+    ])

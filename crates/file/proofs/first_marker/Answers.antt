@@ -1,29 +1,25 @@
--- `file::first_marker` meets its contract. The invariant of its loop: none of the blocks passed is the marker.
-use Prim.Native.Nat.{◌/◌}
-use native.Mathlib.Omega.{arith}
-use lib.ListN.{length}
-use Rattle.file.proofs.Markers.{scan_start, block_same, scan_stops, scan_goes, scan_ends}
+-- `file::first_marker` meets its contract: std's search goes along the blocks as the definition does.
+use mathlib.Core.Path.{◌≡◌, ap, ap₂, ◌∙◌}
+use mathlib.Core.Bool.{cond}
+use Prim.Native.Nat.{ℕ, ◌/◌}
 use borrow.Author.Rules.{rules}
+use borrow.Author.Tests.{tests}
+use lib.Dec.{ltb, eqb}
+use lib.ListN.{length}
+use Rattle.std.specs.Prelude.{Some, None}
+use Rattle.std.specs.Cmp.Lexicographic.{pointwise}
+use Rattle.std.specs.List.{position_or_len}
+use Rattle.std.proofs.lemmas.Iterator.{YieldsList-from_slice}
+use Rattle.std.proofs.lemmas.Iterator.Search.{position_from_yields_List}
+use Rattle.file.proofs.Markers.{searched}
 use Rattle.file.proofs.first_marker.Goals as goal
-
-pub loop-j-init : goal.loop-j-init
-loop-j-init c = (search rules, c.marker-m.ensures, scan_start _ c.args.s.now)
-
-pub returns-then-same : goal.returns-then-same
-returns-then-same c =
-    let l = c.args.s.now in
-    let v = c.loop-j.invariant in
-    let j = c.loop-j.j in
-    scan_stops (length l / 16) j l (omega arith) v.2 (block_same j l _ c.same.ensures v.1 c.if-same.true)
-
-pub loop-j-preserved : goal.loop-j-preserved
-loop-j-preserved c =
-    let l = c.args.s.now in
-    let v = c.loop-j.invariant in
-    let j = c.loop-j.j in
-    (search rules, v.1, scan_goes (length l / 16) j l (omega arith) v.2 (block_same j l _ c.same.ensures v.1 c.if-same.false))
 
 pub returns : goal.returns
 returns c =
-    let l = c.args.s.now in
-    scan_ends (length l / 16) c.loop-j.j l (omega arith) c.loop-j.invariant.0 c.loop-j.invariant.2
+    let s = c.args.s.now in
+    let m = c.marker-m.result in
+    let blocks = c.as_chunks.result.0.now in
+    let e : position_or_len (λ b. pointwise eqb b m) blocks ≡ _ =
+    ap (position_or_len (λ b. pointwise eqb b m)) c.as_chunks.ensures.front ∙ searched m c.marker-m.ensures (length s / 16) s in
+    position_from_yields_List (λ b. pointwise eqb b m) _ _ _ c.position.ensures.ran (YieldsList-from_slice blocks cc) (λ x b q k. search (rules, tests))
+    ∙ ap₂ (λ (k n : ℕ). cond (ltb k n) (Some k) None) e c.as_chunks.ensures.front_len

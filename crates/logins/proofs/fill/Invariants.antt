@@ -1,11 +1,6 @@
--- `logins::fill` meets its contract: the rows so far and those of the records ahead are the table (Fills), and the place grows at each turn.
-use Prim.Native.Nat.{◌-◌}
-use lib.ListN.{length}
+-- `logins::fill` meets its contract: the rows so far and those of the records ahead are the table (Fills).
 use Rattle.logins.proofs.Fills.{Fills}
 use Rattle.logins.proofs.fill.Given as goal
 
-abbrev pub invariant-loop-at : goal.invariant-loop-at
-invariant-loop-at l = Fills l.body l.time l.initial.output l.count l.at l.to l.output
-
-abbrev pub decreases-loop-at : goal.decreases-loop-at
-decreases-loop-at l = length l.body - l.at
+abbrev pub invariant-loop-number : goal.invariant-loop-number
+invariant-loop-number l = Fills l.body l.time l.initial.table l.next l.number l.table

@@ -4,8 +4,8 @@ use lib.ListN.{length}
 use Rattle.mac.proofs.Feeding.{Fed}
 use Rattle.mac.proofs.feed.Given as goal
 
-abbrev pub invariant-loop-at : goal.invariant-loop-at
-invariant-loop-at l = Fed l.body l.initial.st l.at l.next l.st
+abbrev pub invariant-loop-field : goal.invariant-loop-field
+invariant-loop-field l = Fed l.body l.initial.st l.c l.st
 
-abbrev pub decreases-loop-at : goal.decreases-loop-at
-decreases-loop-at l = length l.body - l.at
+abbrev pub decreases-loop-field : goal.decreases-loop-field
+decreases-loop-field l = length l.body - l.c.place

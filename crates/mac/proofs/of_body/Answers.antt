@@ -6,4 +6,4 @@ use Rattle.mac.proofs.of_body.Goals as goal
 pub returns : goal.returns
 returns c =
     let g = c.args in
-    c.finish.ensures g.l.now (covered_of g.body.now) (c.fed-st.ensures g.l.now [] c.start.ensures)
+    c.finish.ensures g.l.now (covered_of g.body.now) (c.feed.ensures g.l.now [] c.start-st.ensures)

@@ -1,29 +1,27 @@
--- `probe::pieces` meets its contract. The invariant of its loop: the state is the one after the first i bytes.
+-- `probe::pieces` meets its contract: the state is always the one after the bytes before those that are left.
 use mathlib.Core.Path.{◌≡◌, sym, ap, ◌∙◌}
-use Prim.Native.Nat.{◌+◌, ◌-◌}
+use mathlib.Core.List.{List, [], ◌∷◌, ◌++◌, append_assoc, append-nil}
+use Prim.Native.Nat.{ℕ}
 use native.Mathlib.Omega.{arith}
-use borrow.Author.Rules.{rules}
-use lib.ListN.{take}
-use lib.Seq.{take-add, take_all}
+use lib.ListN.{length}
 use Rattle.sha256.specs.Sha256.{digest_of, hash_of, sha256}
-use Rattle.sha256.specs.Running.{running_of}
 use Rattle.probe.proofs.pieces.Goals as goal
 
-pub loop-i-preserved : goal.loop-i-preserved
-loop-i-preserved c =
-    let m = c.args.m.now in
-    let i = c.loop-i.i in
-    let e = c.until-e.result in
-    let h : i + (e - i) ≡ e = omega arith in (
-      search rules,
-      c.take_in-st.ensures (take i m) c.loop-i.invariant.1
-          ∙ ap running_of (sym (take-add i (e - i) m) ∙ ap (λ k. take k m) h),
-    )
+-- nothing is left
+whole : (t r : List ℕ) → length r ≡ 0 → t ++ r ≡ t
+whole t [] e = append-nil t
+whole t (a ∷ r) e = absurd (omega arith)
+
+pub loop-part-init : goal.loop-part-init
+loop-part-init c = ([], sym (ap (λ i. i.rest.now) c.into_iter-part-iterator.ensures.into_iter_gives ∙ c.chunks-part-items.ensures.rest), c.start-st.ensures)
+
+pub loop-part-preserved : goal.loop-part-preserved
+loop-part-preserved c =
+    let v = c.loop-part.invariant in
+    (v.0 ++ c.in-Some.part.now, v.1 ∙ ap (λ (r : List ℕ). v.0 ++ r) c.in-Some.ensures.steps.1.0 ∙ sym (append_assoc v.0 c.in-Some.part.now _), c.take_in-st.ensures v.0 v.2)
 
 pub returns : goal.returns
 unfolding sha256
 returns c =
-    let m = c.args.m.now in
-    let i = c.loop-i.i in
-    c.digest.ensures
-    ∙ ap digest_of (c.finish.ensures (take i m) c.loop-i.invariant.1 ∙ ap hash_of (take_all i m (omega arith)))
+    let v = c.loop-part.invariant in
+    c.digest.ensures ∙ ap digest_of (c.finish.ensures v.0 v.2 ∙ ap hash_of (sym (v.1 ∙ whole v.0 _ c.in-None.ensures.steps.1.0)))

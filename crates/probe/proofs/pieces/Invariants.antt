@@ -1,12 +1,9 @@
--- `probe::pieces` meets its contract. The invariant of its loop: the state is the one after the first i bytes.
+-- `probe::pieces` meets its contract: the state is always the one after the bytes before those that are left.
 use mathlib.Core.Path.{◌≡◌}
-use Prim.Native.Nat.{◌-◌, ◌≤◌}
-use lib.ListN.{length, take}
+use mathlib.Core.List.{List, ◌++◌}
+use Prim.Native.Nat.{ℕ}
 use Rattle.sha256.specs.Running.{running_of}
 use Rattle.probe.proofs.pieces.Given as goal
 
-abbrev pub invariant-loop-i : goal.invariant-loop-i
-invariant-loop-i l = (l.i ≤ length l.m) × (l.st ≡ running_of (take l.i l.m))
-
-abbrev pub decreases-loop-i : goal.decreases-loop-i
-decreases-loop-i l = length l.m - l.i
+abbrev pub invariant-loop-part : goal.invariant-loop-part
+invariant-loop-part l = (t : List ℕ) × (l.m ≡ t ++ l.part-iterator.rest.now) × (l.st ≡ running_of t)

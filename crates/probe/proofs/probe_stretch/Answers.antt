@@ -8,4 +8,4 @@ pub returns : goal.returns
 returns c =
     let a = c.args in
     let s : c.stretched-s.result ≡ stretched_of a.iter (start_of a.passphrase.now a.salt.now) = c.stretched-s.ensures ∙ ap (stretched_of a.iter) c.start.ensures in
-    record { answer = ap (λ (x : Stretcher). x.count) s; memory = c.key-k.ensures ∙ ap key_of s }
+    record { answer = ap (λ (x : Stretcher). x.count) s; memory = c.key.ensures ∙ ap key_of s }

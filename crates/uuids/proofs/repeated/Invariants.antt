@@ -1,5 +1,6 @@
 -- `uuids::repeated` meets its contract: the loop keeps what the batches so far have come to (Batches), and each batch has a member.
 use Prim.Native.Nat.{◌-◌}
+use lib.ListN.{length}
 use Rattle.uuids.proofs.Batches.{Batches}
 use Rattle.uuids.proofs.repeated.Given as goal
 
@@ -7,4 +8,4 @@ abbrev pub invariant-loop-number : goal.invariant-loop-number
 invariant-loop-number l = Batches l.body l.from l.at l.number l.best
 
 abbrev pub decreases-loop-number : goal.decreases-loop-number
-decreases-loop-number l = l.best - l.number
+decreases-loop-number l = length l.body - l.number

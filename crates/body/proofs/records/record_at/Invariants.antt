@@ -4,8 +4,8 @@ use lib.ListN.{length}
 use Rattle.body.proofs.Keeps.{Keeps}
 use Rattle.body.proofs.records.record_at.Given as goal
 
-abbrev pub invariant-loop-c : goal.invariant-loop-c
-invariant-loop-c l = Keeps l.body l.at l.c l.x l.n
+abbrev pub invariant-loop-field : goal.invariant-loop-field
+invariant-loop-field l = Keeps l.body l.at l.c l.firsts l.n
 
-abbrev pub decreases-loop-c : goal.decreases-loop-c
-decreases-loop-c l = length l.body - l.c.place
+abbrev pub decreases-loop-field : goal.decreases-loop-field
+decreases-loop-field l = length l.body - l.c.place

@@ -5,8 +5,8 @@ use Rattle.body.proofs.Hunt.{Hunts}
 use Rattle.body.specs.Search.{searched_on}
 use Rattle.body.proofs.search.seek_on.Given as goal
 
-abbrev pub invariant-loop-c : goal.invariant-loop-c
-invariant-loop-c l = Hunts l.body l.low l.high (searched_on l.low l.high l.initial.x l.initial.c l.body) l.c l.x
+abbrev pub invariant-loop-field : goal.invariant-loop-field
+invariant-loop-field l = Hunts l.body l.uuid.low l.uuid.high (searched_on l.uuid.low l.uuid.high l.initial.x l.initial.c l.body) l.c l.x
 
-abbrev pub decreases-loop-c : goal.decreases-loop-c
-decreases-loop-c l = length l.body - l.c.place
+abbrev pub decreases-loop-field : goal.decreases-loop-field
+decreases-loop-field l = length l.body - l.c.place

@@ -4,4 +4,4 @@ use Rattle.chain.proofs.beside.load_three.Goals as goal
 
 pub returns : goal.returns
 unfolding three_of
-returns c = λ i. record { x = c.read.ensures i; y = c.read-2.ensures i; z = c.read-3.ensures i }
+returns c = λ i. record { x = c.load.ensures i; y = c.load-2.ensures i; z = c.load-3.ensures i }

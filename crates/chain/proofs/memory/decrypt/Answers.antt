@@ -1,4 +1,4 @@
--- `chain::memory::decrypt` meets its contract: `blocks::decrypt`, with the tables that the key makes.
+-- `chain::memory::decrypt` meets its contract: all blocks are decrypted, with what the key makes.
 use Rattle.std.proofs.Common.{ℕ, List, sym, ◌∙◌, subst, ap₂, rules}
 use Rattle.twofish.specs.Twofish.{decrypt_block}
 use Rattle.chain.specs.Decryption.{Decryption}
@@ -16,20 +16,8 @@ returns-then-work-ne0 c =
 pub returns : goal.returns
 returns c =
     let a = c.args in
-    let same =
-    tabled_dec a.key.now
-    (record {
-      t0_is = c.table-t0.ensures;
-      t1_is = c.table-t1.ensures;
-      s_is = c.box_key-s.ensures;
-      k_is = c.subkeys-k.ensures;
-      g0_is = c.fill-g0.ensures;
-      g1_is = c.fill-g1.ensures;
-      g2_is = c.fill-g2.ensures;
-      g3_is = c.fill-g3.ensures;
-    })
-    in
-    let begun = iv_bytes a.iv.now (search rules) c.start.ensures in
+    let same = tabled_dec a.key.now c.new-schedule.ensures in
+    let begun = iv_bytes a.iv.now c.told-iv c.fits-iv c.load.ensures in
     let all =
     ap₂ (λ (f : List ℕ → List ℕ) (p : List ℕ). decrypted_blocks (mode_d a.mode f) p a.work.now a.count) same begun
     ∙ sym (decrypted_here _ a.iv.now a.work.now a.count c.if-work-ne0.false)

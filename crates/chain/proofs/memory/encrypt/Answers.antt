@@ -1,5 +1,5 @@
--- `chain::memory::encrypt` meets its contract: `blocks::encrypt`, with the tables that the key makes.
-use Rattle.std.proofs.Common.{ℕ, List, sym, ◌∙◌, ap₂, rules}
+-- `chain::memory::encrypt` meets its contract: all blocks are encrypted, with what the key makes.
+use Rattle.std.proofs.Common.{ℕ, List, sym, ◌∙◌, ap₂}
 use Rattle.twofish.specs.Twofish.{encrypt_block}
 use Rattle.chain.specs.Blocks.{mode_e, encrypted_blocks}
 use Rattle.chain.proofs.MemoryLaws.{refused_encrypt, encrypted_here}
@@ -14,20 +14,8 @@ returns-then-work-ne0 c =
 pub returns : goal.returns
 returns c =
     let a = c.args in
-    let same =
-    tabled_enc a.key.now
-    (record {
-      t0_is = c.table-t0.ensures;
-      t1_is = c.table-t1.ensures;
-      s_is = c.box_key-s.ensures;
-      k_is = c.subkeys-k.ensures;
-      g0_is = c.fill-g0.ensures;
-      g1_is = c.fill-g1.ensures;
-      g2_is = c.fill-g2.ensures;
-      g3_is = c.fill-g3.ensures;
-    })
-    in
-    let begun = iv_bytes a.iv.now (search rules) c.start.ensures in
+    let same = tabled_enc a.key.now c.new-schedule.ensures in
+    let begun = iv_bytes a.iv.now c.told-iv c.fits-iv c.load.ensures in
     c.encrypt.ensures
     ∙ ap₂ (λ (f : List ℕ → List ℕ) (p : List ℕ). encrypted_blocks (mode_e a.mode f) p a.work.now) same begun
     ∙ sym (encrypted_here _ a.iv.now a.work.now c.if-work-ne0.false)

@@ -1,29 +1,21 @@
 -- `replay::pass::enter` meets its contract: the loop keeps that the records so far have gone in (Entering).
-use lib.ListN.{length-take, length-drop}
 use native.Mathlib.Omega.{arith}
-use mathlib.Core.Path.{sym, ◌∙◌}
+use Rattle.replay.proofs.Chunks.{part_in}
 use Rattle.replay.proofs.Passing.{entering_start, entering_owned, entering_next, entering_end}
-use borrow.Author.Rules.{rules}
 use Rattle.replay.proofs.pass.enter.Goals as goal
 
-pub loop-k-init : goal.loop-k-init
-loop-k-init c = entering_start c.args.state.now c.args.trace.now c.requires
+pub loop-r-init : goal.loop-r-init
+loop-r-init c = entering_start c.args.state.now c.args.trace.now c.requires
 
 pub enter_one-requires : goal.enter_one-requires
-enter_one-requires c = (
-  c.loop-k.invariant.long,
-  simp (length-take, length-drop) (omega arith),
-  entering_owned c.args.state.now c.args.trace.now _ _ c.loop-k.invariant (omega arith),
-)
+enter_one-requires c =
+    let r = part_in _ c.loop-r.r-index c.args.trace.now _ c.as_chunks.ensures.front (omega (arith, c.as_chunks.ensures.front_len)) in
+    entering_owned c.args.state.now c.args.trace.now _ _ c.loop-r.invariant _ r (omega (arith, c.as_chunks.ensures.front_len))
 
-pub loop-k-smaller : goal.loop-k-smaller
-loop-k-smaller c = omega arith
-
-pub loop-k-preserved : goal.loop-k-preserved
-loop-k-preserved c = entering_next c.args.state.now c.args.trace.now _ _ c.loop-k.invariant _ (omega arith) c.enter_one.ensures (search rules)
-
-pub shape_of-state : goal.shape_of-state
-shape_of-state c = c.loop-k.invariant.long ∙ sym c.loop-k.invariant.all.long
+pub loop-r-preserved : goal.loop-r-preserved
+loop-r-preserved c =
+    let r = part_in _ c.loop-r.r-index c.args.trace.now _ c.as_chunks.ensures.front (omega (arith, c.as_chunks.ensures.front_len)) in
+    entering_next c.args.state.now c.args.trace.now _ _ c.loop-r.invariant _ r _ c.enter_one.ensures
 
 pub returns : goal.returns
-returns c = entering_end c.args.state.now c.args.trace.now _ _ c.loop-k.invariant (omega arith)
+returns c = entering_end c.args.state.now c.args.trace.now _ _ c.loop-r.invariant (omega (arith, c.as_chunks.ensures.front_len))

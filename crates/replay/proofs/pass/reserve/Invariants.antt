@@ -1,11 +1,6 @@
 -- `replay::pass::reserve` meets its contract: the loop keeps that the records so far have places (Reserving).
-use lib.ListN.{length}
-use Prim.Native.Nat.{◌-◌, ◌/◌}
 use Rattle.replay.proofs.Passing.{Reserving}
 use Rattle.replay.proofs.pass.reserve.Given as goal
 
 abbrev pub invariant-loop-n : goal.invariant-loop-n
 invariant-loop-n l = Reserving l.initial.state l.trace l.state l.n
-
-abbrev pub decreases-loop-n : goal.decreases-loop-n
-decreases-loop-n l = length l.trace / 32 - l.n

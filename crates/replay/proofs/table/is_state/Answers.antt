@@ -1,19 +1,24 @@
--- `replay::table::is_state` meets its contract: the loop keeps that the entries so far are tidy (Checked).
-use Rattle.replay.proofs.Checked.{checked_start, checked_next, checked_stop, checked_end, checked_not}
-use native.Mathlib.Omega.{arith}
+-- `replay::table::is_state` meets its contract: by the length, and the test of all parts.
+use Rattle.std.proofs.lemmas.Iterator.{YieldsList-from_slice}
+use Rattle.std.proofs.lemmas.Iterator.Search.{all_from_yields_List}
+use Rattle.std.proofs.Common.{rules, tests}
+use mathlib.Core.Path.{◌≡◌, ap, ◌∙◌}
+use borrow.Author.Tests.{ne_eqb}
+use lib.ListN.{length}
+use Prim.Native.Nat.{◌/◌}
+use Rattle.std.specs.List.{list_all}
+use Rattle.replay.specs.State.{is_state, tidy}
+use Rattle.replay.proofs.Chunks.{all_tidy}
 use Rattle.replay.proofs.table.is_state.Goals as goal
 
-pub returns-then-state-ne131072 : goal.returns-then-state-ne131072
-returns-then-state-ne131072 c = checked_not c.args.state.now c.if-state-ne131072.true
+pub returns-then-state-eq131072 : goal.returns-then-state-eq131072
+unfolding is_state
+returns-then-state-eq131072 c =
+    let s = c.args.state.now in
+    let e : length s ≡ 131072 = c.if-state-eq131072.true in
+    all_from_yields_List {all = c.as_chunks.result.0.now} tidy _ _ _ c.all.ensures.ran (YieldsList-from_slice _ cc) (λ x b q k. search (rules, tests))
+    ∙ ap (list_all tidy) c.as_chunks.ensures.front ∙ all_tidy (length s / 32) s ∙ rw e
 
-pub loop-i-init : goal.loop-i-init
-loop-i-init c = checked_start c.args.state.now
-
-pub loop-i-preserved : goal.loop-i-preserved
-loop-i-preserved c = checked_next c.args.state.now c.loop-i.i _ (omega arith) c.tidy.ensures c.loop-i.invariant c.if-tidy.true
-
-pub returns-else-tidy : goal.returns-else-tidy
-returns-else-tidy c = checked_stop c.args.state.now c.loop-i.i _ (omega arith) c.tidy.ensures c.if-state-ne131072.false c.if-tidy.false
-
-pub returns : goal.returns
-returns c = checked_end c.args.state.now c.loop-i.i c.loop-i.invariant (omega arith) c.if-state-ne131072.false
+pub returns-else-state-eq131072 : goal.returns-else-state-eq131072
+unfolding is_state
+returns-else-state-eq131072 c = rw (ne_eqb (length c.args.state.now) 131072 c.if-state-eq131072.false)

@@ -1,19 +1,16 @@
--- `rows::column::before_zero` meets its contract: what is passed and what is left make the whole.
-use Rattle.rows.proofs.Zero.{zero_found, zero_on, zero_none}
-use borrow.Author.Rules.{rules}
+-- `rows::column::before_zero` meets its contract: the place of the first zero byte, or the length where there is none.
+use mathlib.Core.Path.{ap, ◌∙◌}
+use lib.Dec.{eqb}
+use lib.ListN.{length}
+use Rattle.std.proofs.Common.{rules, tests, ℕ, Option, unwrap_or}
+use Rattle.std.proofs.lemmas.Iterator.{YieldsList-from_slice}
+use Rattle.std.proofs.lemmas.Iterator.Search.{position_from_yields_List}
+use Rattle.rows.proofs.Zero.{first_zero}
 use Rattle.rows.proofs.column.before_zero.Goals as goal
 
-pub returns-then-d-i-eq0 : goal.returns-then-d-i-eq0
-returns-then-d-i-eq0 c =
-    let l = c.loop-i in
-    (zero_found _ l.i l.invariant.1 c.loop-i-test.true c.if-d-i-eq0.true, search rules)
-
-pub loop-i-preserved : goal.loop-i-preserved
-loop-i-preserved c =
-    let l = c.loop-i in
-    (search rules, zero_on _ l.i l.invariant.1 c.loop-i-test.true c.if-d-i-eq0.false)
-
-pub returns : goal.returns
-returns c =
-    let l = c.loop-i in
-    (zero_none _ l.i l.invariant.1 c.loop-i-test.false, search rules)
+pub returns-clause-value : goal.returns-clause-value
+returns-clause-value c =
+    let d = c.args.d.now in
+    c.unwrap_or.ensures
+    ∙ ap (λ (o : Option ℕ). unwrap_or o (length d)) (position_from_yields_List (λ b. eqb b 0) _ _ _ c.position.ensures.ran (YieldsList-from_slice d cc) (λ x b q k. search (rules, tests)))
+    ∙ first_zero d

@@ -1,10 +1,9 @@
--- `rows::days::between` meets its contract, ahead and behind.
+-- `rows::days::between` meets its contract: the quotient is in 32 bits, and what these hold is the definition's.
 use native.Mathlib.Omega.{arith}
-use Rattle.rows.proofs.Rounding.{days_ahead, days_behind}
+use Rattle.rows.proofs.Rounding.{rounded_down}
 use Rattle.rows.proofs.days.between.Goals as goal
 
-pub returns-then-time-expiry : goal.returns-then-time-expiry
-returns-then-time-expiry c = days_ahead _ _ c.if-time-expiry.true (omega arith)
-
 pub returns : goal.returns
-returns c = days_behind _ _ c.if-time-expiry.false (omega arith)
+returns c =
+    let q = c.div_euclid-days in
+    rounded_down _ _ (omega arith) (omega arith) _ _ q.result _ c.from.ensures c.from-2.ensures (record { sfits = q.type_inv }) q.ensures c.cast_unsigned.ensures

@@ -1,7 +1,7 @@
 -- `safe::assemble::file` meets its contract: the head, the body behind it, and where no block is the marker the rest.
 use Rattle.safe.proofs.V3Laws.{hmac_sized}
 use Prim.Native.Nat.{◌≤◌, ℕ, ◌+◌, ◌-◌}
-use mathlib.Core.Path.{◌≡◌, refl, ap, ◌∙◌}
+use mathlib.Core.Path.{◌≡◌, refl, sym, ap, ◌∙◌}
 use mathlib.Core.List.{List, ◌++◌}
 use native.Mathlib.Omega.{arith}
 use lib.ListN.{length, take, drop}
@@ -12,13 +12,14 @@ use Rattle.safe.proofs.Laying.{head_is_long, new_long, new_is, body_laid, part_i
 use borrow.Author.Rules.{rules}
 use Rattle.safe.proofs.assemble.file.Goals as goal
 
-pub returns-then-first_marker-n : goal.returns-then-first_marker-n
-returns-then-first_marker-n c =
+pub returns-then-is_some : goal.returns-then-is_some
+returns-then-is_some c =
+    let v = c.args.v.now in
     let body = c.args.body.now in
-    let K = c.args.k.now in
-    let iv = c.args.iv.now in
+    let K = v.k.now in
+    let iv = v.iv.now in
     let n = length c.args.output.now in
-    let H = head_of (stretched_v3 c.args.passphrase.now c.args.salt.now c.args.iter) c.args.salt.now c.args.iter K c.args.l.now iv in
+    let H = head_of (stretched_v3 v.passphrase.now v.salt.now v.iter) v.salt.now v.iter K v.l.now iv in
     let o1 = c.head.new.output in
     let new = c.cbc_encrypt.new.to in
     let h : 200 + length body ≤ n = omega (arith, c.requires.holds) in
@@ -28,19 +29,17 @@ returns-then-first_marker-n c =
     let en = c.cbc_encrypt.ensures in
     let o2 : List ℕ = take 152 o1 ++ (new ++ drop (152 + length body - 152) (drop 152 o1)) in
     let l3 : length o2 ≡ n = omega (arith, lo, ln) in
-    laid_refused c.args.passphrase.now c.args.salt.now c.args.iter K c.args.l.now iv body n new _
-    (new_is H K iv body o1 new n h c.requires.whole lo e1 ln en) (new_long H K iv body o1 new n h c.requires.whole lo e1 ln en) c.first_marker.ensures (part_is H K iv body o1 new n h c.requires.whole lo e1 ln en _ refl) c.if-first_marker-n.true (c.zero.ensures ∙ ap zeros l3)
-
-pub overflow_add-e-2 : goal.overflow_add-e-2
-overflow_add-e-2 c = omega (arith, c.requires.holds, c.well_formed)
+    laid_refused v body n new _
+    (new_is H K iv body o1 new n h c.requires.whole lo e1 ln en) (new_long H K iv body o1 new n h c.requires.whole lo e1 ln en) c.first_marker.ensures (part_is H K iv body o1 new n h c.requires.whole lo e1 ln en _ refl) (sym c.is_some.ensures ∙ c.if-is_some.true) (c.zero.ensures ∙ ap zeros l3)
 
 pub returns : goal.returns
 returns c =
+    let v = c.args.v.now in
     let body = c.args.body.now in
-    let K = c.args.k.now in
-    let iv = c.args.iv.now in
+    let K = v.k.now in
+    let iv = v.iv.now in
     let n = length c.args.output.now in
-    let H = head_of (stretched_v3 c.args.passphrase.now c.args.salt.now c.args.iter) c.args.salt.now c.args.iter K c.args.l.now iv in
+    let H = head_of (stretched_v3 v.passphrase.now v.salt.now v.iter) v.salt.now v.iter K v.l.now iv in
     let o1 = c.head.new.output in
     let new = c.cbc_encrypt.new.to in
     let h : 200 + length body ≤ n = omega (arith, c.requires.holds) in
@@ -48,6 +47,6 @@ returns c =
     let ln : length new ≡ length (take (152 + length body - 152) (drop 152 o1)) = search rules in
     let e1 = c.head.ensures in
     let en = c.cbc_encrypt.ensures in
-    laid_done c.args.passphrase.now c.args.salt.now c.args.iter K c.args.l.now iv body n new _ _ _ h
-    (new_is H K iv body o1 new n h c.requires.whole lo e1 ln en) (new_long H K iv body o1 new n h c.requires.whole lo e1 ln en) (head_is_long H K iv body o1 new n h c.requires.whole lo e1 ln en) c.first_marker.ensures (part_is H K iv body o1 new n h c.requires.whole lo e1 ln en _ refl) c.if-first_marker-n.false
-    c.marker-m.ensures c.of_body-mac.ensures (ap length c.of_body-mac.ensures ∙ (hmac_sized _ _).long) (body_laid H K iv body o1 new n h c.requires.whole lo e1 ln en _ refl) c.lay.ensures c.lay-2.ensures
+    laid_done v body n new _ _ _ h
+    (new_is H K iv body o1 new n h c.requires.whole lo e1 ln en) (new_long H K iv body o1 new n h c.requires.whole lo e1 ln en) (head_is_long H K iv body o1 new n h c.requires.whole lo e1 ln en) c.first_marker.ensures (part_is H K iv body o1 new n h c.requires.whole lo e1 ln en _ refl) (sym c.is_some.ensures ∙ c.if-is_some.false)
+    c.marker.ensures c.of_body.ensures (ap length c.of_body.ensures ∙ (hmac_sized _ _).long) (body_laid H K iv body o1 new n h c.requires.whole lo e1 ln en _ refl) c.lay.ensures c.lay-2.ensures

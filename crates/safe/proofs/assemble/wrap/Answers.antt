@@ -4,7 +4,7 @@ use mathlib.Core.List.{[], ◌++◌, append-nil}
 use native.Mathlib.Omega.{arith}
 use lib.ListN.{length}
 use Rattle.safe.proofs.Slots.{laid}
-use Rattle.safe.proofs.Opened.{wrapped_is}
+use Rattle.safe.proofs.HandedOn.{wrapped_is}
 use borrow.Author.Rules.{rules}
 use Rattle.safe.proofs.assemble.wrap.Goals as goal
 

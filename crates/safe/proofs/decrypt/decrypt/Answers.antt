@@ -6,9 +6,9 @@ use lib.ListN.{length, take, drop, length-drop}
 use lib.Seq.{length-take-le}
 use Rattle.words.specs.Numbers.{Bytes}
 use Rattle.words.proofs.ByteLaws.{bytes_of}
-use Rattle.words.proofs.SliceLaws.{copied_over, copied_whole}
+use Rattle.words.proofs.SliceLaws.{copied_whole}
 use Rattle.file.specs.Layout.{split}
-use Rattle.safe.proofs.Opened.{body_decrypted_lem}
+use Rattle.safe.proofs.HandedOn.{body_decrypted_lem}
 use Rattle.safe.proofs.decrypt.decrypt.Goals as goal
 
 pub returns : goal.returns
@@ -19,9 +19,7 @@ returns c =
     let d136 = length-drop 136 f in
     let d152 = length-drop 152 f in
     let m : length f - 48 - 152 ≡ length f - 200 = omega arith in
-    let l : length (take (length f - 200) (drop 152 f)) ≡ length f - 200 = length-take-le (length f - 200) (drop 152 f) (omega (arith, c.requires.whole)) in
-    let q : length c.args.work.now ≡ length (take (length f - 48 - 152) (drop 152 f)) = omega (arith, ap (λ (k : ℕ). length (take k (drop 152 f))) m, l, c.requires.long) in
-    body_decrypted_lem f c.args.key.now _ _ _ bytes c.requires c.unwrap-keys.ensures
-    (c.first_16-iv.ensures ∙ copied_whole 16 (take 16 (drop 136 f)) (length-take-le 16 (drop 136 f) (omega (arith, c.requires.whole))))
-    (c.copy.ensures ∙ copied_over c.args.work.now (take (length f - 48 - 152) (drop 152 f)) q ∙ ap (λ (k : ℕ). take k (drop 152 f)) m)
-    c.cbc_decrypt-count.ensures
+    body_decrypted_lem f c.args.key.now _ _ _ bytes c.requires c.unwrap-blocks.ensures
+    (c.first-iv.ensures ∙ copied_whole 16 (take 16 (drop 136 f)) (length-take-le 16 (drop 136 f) (omega (arith, c.requires.whole))))
+    (c.copy_from_slice.ensures.after ∙ ap (λ (k : ℕ). take k (drop 152 f)) m)
+    c.cbc_decrypt-blocks.ensures

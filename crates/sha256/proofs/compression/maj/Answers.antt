@@ -3,4 +3,4 @@ use Rattle.sha256.proofs.Bitwise.{majority}
 use Rattle.sha256.proofs.compression.maj.Goals as goal
 
 pub returns : goal.returns
-returns c = majority 32 c.args.x c.args.y c.args.z c.ranges.x.fits c.ranges.y.fits c.ranges.z.fits
+returns c = majority c.args.x c.args.y c.args.z

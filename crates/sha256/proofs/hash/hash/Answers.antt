@@ -5,6 +5,4 @@ use Rattle.sha256.proofs.hash.hash.Goals as goal
 
 pub returns : goal.returns
 unfolding sha256
-returns c =
-    c.digest.ensures
-    ∙ ap digest_of (c.finish.ensures _ (c.take_in-st.ensures [] c.start.ensures))
+returns c = c.digest.ensures ∙ ap digest_of (c.finish.ensures _ (c.take_in.ensures [] c.start.ensures))

@@ -4,4 +4,4 @@ use Rattle.sha256.specs.Running.{running_of}
 use Rattle.sha256.proofs.hmac.begun.Goals as goal
 
 pub returns : goal.returns
-returns c = c.take_in.ensures [] c.start.ensures ∙ ap running_of c.keyed-k.ensures
+returns c = c.take_in.ensures [] c.start.ensures ∙ ap running_of c.keyed.ensures

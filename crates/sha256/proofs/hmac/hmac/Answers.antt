@@ -3,4 +3,4 @@ use Rattle.std.proofs.Common.{[]}
 use Rattle.sha256.proofs.hmac.hmac.Goals as goal
 
 pub returns : goal.returns
-returns c = c.finish.ensures c.args.key.now _ (c.take_in-st.ensures _ [] c.start.ensures)
+returns c = c.finish.ensures c.args.key.now _ (c.take_in.ensures _ [] c.start.ensures)

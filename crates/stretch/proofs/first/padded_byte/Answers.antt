@@ -5,8 +5,8 @@ use Rattle.stretch.proofs.first.padded_byte.Goals as goal
 pub returns-then-i-p : goal.returns-then-i-p
 returns-then-i-p c = let a = c.args in in_first a.p.now a.s.now a.i c.if-i-p.true
 
-pub returns-then-j-s : goal.returns-then-j-s
-returns-then-j-s c = let a = c.args in in_second a.p.now a.s.now a.i c.if-i-p.false c.if-j-s.true
+pub returns-then-i-p-2 : goal.returns-then-i-p-2
+returns-then-i-p-2 c = let a = c.args in in_second a.p.now a.s.now a.i c.if-i-p.false c.if-i-p-2.true
 
-pub returns : goal.returns
-returns c = let a = c.args in in_padding a.p.now a.s.now a.i c.if-i-p.false c.if-j-s.false c.padding_byte.ensures
+pub returns-else-i-p-2 : goal.returns-else-i-p-2
+returns-else-i-p-2 c = let a = c.args in in_padding a.p.now a.s.now a.i c.if-i-p.false c.if-i-p-2.false c.padding_byte.ensures

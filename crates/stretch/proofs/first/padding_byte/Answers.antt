@@ -1,7 +1,10 @@
--- `stretch::first::padding_byte` meets its contract, by the laws of the padding.
-use Rattle.std.proofs.Common.{ℕ, get_or, sym, ap, ◌∙◌, arith}
-use Rattle.sha256.specs.Sha256.{padding}
-use Rattle.sha256.proofs.Padded.{padding_first, padding_zero, padding_length, padding_past}
+-- `stretch::first::padding_byte` meets its contract, by the laws of the padding's three parts.
+use Rattle.std.proofs.Common.{◌≡◌, ℕ, ◌-◌, ◌*◌, List, get_or, sym, ap, ◌∙◌, arith, rules}
+use Rattle.words.specs.Numbers.{bytes_high}
+use Rattle.words.proofs.Conversions.{to_be_wide}
+use Rattle.words.proofs.NumberLaws.{bytes_mod_high}
+use Rattle.sha256.specs.Sha256.{zeros_after, padding}
+use Rattle.sha256.proofs.Padded.{padding_first, padding_zero, padding_rest}
 use Rattle.stretch.proofs.first.padding_byte.Goals as goal
 
 pub returns-then-k-eq0 : goal.returns-then-k-eq0
@@ -10,8 +13,11 @@ returns-then-k-eq0 c = sym (ap (λ (k : ℕ). get_or (padding c.args.n) k 0) c.i
 pub returns-then-k-z : goal.returns-then-k-z
 returns-then-k-z c = sym (padding_zero c.args.n c.args.k (omega arith) c.if-k-z.true)
 
-pub returns-then-t-lt8 : goal.returns-then-t-lt8
-returns-then-t-lt8 c = c.wide_byte.ensures ∙ sym (padding_length c.args.n c.args.k c.if-k-z.false c.if-t-lt8.true)
-
-pub returns : goal.returns
-returns c = sym (padding_past c.args.n c.args.k c.if-k-z.false c.if-t-lt8.false)
+pub returns-else-k-z : goal.returns-else-k-z
+returns-else-k-z c =
+    let n = c.args.n in
+    let j : ℕ = c.args.k - zeros_after n - 1 in
+    let e : n * 8 ≡ 8 * n = omega arith in
+    let b : c.to_be_bytes-bits.result ≡ bytes_high 8 (8 * n) = c.to_be_bytes-bits.ensures ∙ to_be_wide _ ∙ bytes_mod_high 8 (n * 8) ∙ ap (bytes_high 8) e in
+    let g : c.unwrap_or.result ≡ get_or c.to_be_bytes-bits.result j 0 = search rules in
+    g ∙ ap (λ (l : List ℕ). get_or l j 0) b ∙ sym (padding_rest n c.args.k c.if-k-z.false)

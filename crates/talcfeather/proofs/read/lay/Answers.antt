@@ -1,14 +1,17 @@
--- `talcfeather::read::lay` meets its contract, by the law of the three parts.
-use mathlib.Core.Path.{ap, ◌∙◌}
-use Prim.Native.Nat.{◌*◌}
-use Rattle.talcfeather.specs.Numbers.{in_bytes}
-use Rattle.talcfeather.proofs.InBytes.{stored_length}
-use Rattle.talcfeather.proofs.Keys.{three_parts}
+-- `talcfeather::read::lay` meets its contract: each key fills its half.
+use mathlib.Core.Path.{sym}
+use native.Mathlib.Omega.{arith}
+use lib.Seq.{length-take-le}
+use Rattle.talcfeather.proofs.Keys.{two_halves}
 use Rattle.talcfeather.proofs.read.lay.Goals as goal
+
+pub slice_bounds-copy_from_slice-end-2 : goal.slice_bounds-copy_from_slice-end-2
+slice_bounds-copy_from_slice-end-2 c = sym (length-take-le 32 c.args.answer.now (omega arith))
+
+pub copy_from_slice-requires : goal.copy_from_slice-requires
+copy_from_slice-requires c = omega (arith, length-take-le 32 c.args.answer.now (omega arith))
 
 pub returns : goal.returns
 returns c =
     let a = c.args in
-    three_parts a.answer.now a.k.now a.l.now (in_bytes a.numbers.now) _ _ _
-    c.requires.3 c.requires.0 c.requires.1 (stored_length a.numbers.now ∙ ap (◌*◌ 8) c.requires.2)
-    c.copy.ensures c.copy-2.ensures c.store.ensures
+    two_halves a.answer.now a.k.now a.l.now _ _ c.requires (omega arith) c.copy_from_slice.ensures.after c.copy_from_slice-2.ensures.after

@@ -1,4 +1,4 @@
--- `twofish::blocks::encrypt_block` meets its contract: the cipher on four words, with what the key makes of the tables.
+-- `twofish::blocks::encrypt_block` meets its contract: the cipher on four words, with what the key makes.
 use Rattle.twofish.specs.Twofish.{encrypt_block}
 use Rattle.twofish.proofs.Keyed.{encrypts, in_bytes}
 use Rattle.twofish.proofs.blocks.encrypt_block.Goals as goal
@@ -6,17 +6,4 @@ use Rattle.twofish.proofs.blocks.encrypt_block.Goals as goal
 pub returns : goal.returns
 unfolding encrypt_block
 returns c =
-    let a = c.args in
-    in_bytes a.b.now
-    (encrypts a.m.now
-    (record {
-      t0_is = c.table-t0.ensures;
-      t1_is = c.table-t1.ensures;
-      s_is = c.box_key-s.ensures;
-      k_is = c.subkeys-k.ensures;
-      g0_is = c.fill-g0.ensures;
-      g1_is = c.fill-g1.ensures;
-      g2_is = c.fill-g2.ensures;
-      g3_is = c.fill-g3.ensures;
-    }))
-    c.load.ensures c.encrypt.ensures c.bytes.ensures
+    in_bytes c.args.b.now (encrypts c.args.m.now c.new.ensures) c.load.ensures c.encrypt.ensures c.bytes.ensures

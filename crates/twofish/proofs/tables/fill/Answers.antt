@@ -1,25 +1,17 @@
 -- `twofish::tables::fill` meets its contract: after x turns the first x places hold their entries.
-use Rattle.words.specs.Table.{at}
+use Rattle.twofish.specs.Q.{q0, q1}
 use Rattle.twofish.specs.Tabled.{entry, filled}
 use Rattle.words.proofs.Tables.{table_more, is_table}
-use mathlib.Core.Path.{refl}
-use native.Mathlib.Nat.{not-suc-le-zero}
 use native.Mathlib.Omega.{arith}
 use lib.ListN.{length-set}
-use borrow.Author.Rules.{rules}
 use Rattle.twofish.proofs.tables.fill.Goals as goal
-
-pub loop-x-init : goal.loop-x-init
-loop-x-init c = (search rules, refl, λ i h. absurd (not-suc-le-zero h))
 
 pub loop-x-preserved : goal.loop-x-preserved
 loop-x-preserved c =
     let a = c.args in
-    let o = c.loop-x in
-    let f = entry (at a.t0.now) (at a.t1.now) a.s.now a.j in (
-      omega arith,
-      simp length-set o.invariant.1,
-      table_more f o.r o.x c.entry.result (omega arith) c.entry.ensures o.invariant.2,
+    let o = c.loop-x in (
+      simp length-set o.invariant.0,
+      table_more (entry q0 q1 a.s.now a.j) o.r o.x c.entry.result (omega arith) c.entry.ensures o.invariant.1,
     )
 
 pub returns : goal.returns
@@ -27,4 +19,4 @@ unfolding filled
 returns c =
     let a = c.args in
     let o = c.loop-x in
-    is_table 256 (entry (at a.t0.now) (at a.t1.now) a.s.now a.j) o.r o.invariant.1 (λ i h. o.invariant.2 i (omega arith))
+    is_table 256 (entry q0 q1 a.s.now a.j) o.r o.invariant.0 (λ i h. o.invariant.1 i (omega arith))

@@ -1,6 +1,6 @@
 -- `uuids::batch::batch` meets its contract: it lends the empty table to `pass`.
-use borrow.Author.Rules.{rules}
+use Rattle.uuids.proofs.Members.{all_zero}
 use Rattle.uuids.proofs.batch.batch.Goals as goal
 
 pub pass-requires : goal.pass-requires
-pass-requires c = search rules
+pass-requires c = (c.requires.0, c.requires.1, all_zero)

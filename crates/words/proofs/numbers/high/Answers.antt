@@ -1,6 +1,7 @@
--- `words::numbers::high` meets its contract: its sum is the number, by the law of a word of four bytes.
-use Rattle.words.proofs.NumberLaws.{high_word}
+-- `words::numbers::high` meets its contract: std's conversion of four bytes is their number.
+use mathlib.Core.Path.{◌∙◌}
+use Rattle.words.proofs.Conversions.{from_be_word}
 use Rattle.words.proofs.numbers.high.Goals as goal
 
 pub returns : goal.returns
-returns c = high_word c.args.a c.args.b c.args.c c.args.d
+returns c = c.from_be_bytes.ensures ∙ from_be_word c.args.a c.args.b c.args.c c.args.d

@@ -1,6 +1,7 @@
--- `words::numbers::low` meets its contract: its sum is the number, by the law of a word of four bytes.
-use Rattle.words.proofs.NumberLaws.{low_word}
+-- `words::numbers::low` meets its contract: std's conversion of four bytes is their number.
+use mathlib.Core.Path.{◌∙◌}
+use Rattle.words.proofs.Conversions.{from_le_word}
 use Rattle.words.proofs.numbers.low.Goals as goal
 
 pub returns : goal.returns
-returns c = low_word c.args.a c.args.b c.args.c c.args.d
+returns c = c.from_le_bytes.ensures ∙ from_le_word c.args.a c.args.b c.args.c c.args.d
