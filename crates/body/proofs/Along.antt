@@ -140,3 +140,6 @@ module _ {A : Type 0} (go : List Stored → A) (y : A) (s : List ℕ) (c : Curso
 
   pub fold_else : TakesNone s c → go [] ≡ y
   fold_else o = ap go (sym (taken_else s c o)) ∙ k
+
+  pub fold_stop : length s ≤ c.place → go [] ≡ y
+  fold_stop h = ap go (sym (taken_stop s c h)) ∙ k

@@ -29,7 +29,8 @@ pub fn chained(mode: Mode, prev: Block, x: Block) -> Block
 }
 
 impl Chaining<'_> {
-    // Both hand on the cipher block, which the next block is chained to.
+    // Both hand on the cipher block, which the next block is chained to. There and back are two definitions, neither an instance of
+    // the other.
     pub fn encrypt_block(&self, prev: Block, b: &mut [u8]) -> Block
         requires { length b.old ≡ 16 }
         ensures { EncryptedBlock self.now.mode (tabled_encrypt self.now.schedule.now) prev b.old b.new result }

@@ -1,5 +1,6 @@
 // All blocks of a memory in place, the first one chained to `first`; bytes past the last whole block stay. Blocks are lent by
-// their range: of a memory that std lends in chunks nothing is known afterwards.
+// their range: of a memory that std lends in chunks nothing is known afterwards. There and
+// back are two definitions, and only back counts.
 ghost use Rattle.std.specs.Prelude.{◌≡◌};
 ghost use Rattle.twofish.specs.Twofish.{block_bytes};
 ghost use Rattle.twofish.specs.Tabled.{tabled_encrypt, tabled_decrypt};

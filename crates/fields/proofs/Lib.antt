@@ -6,3 +6,4 @@ pub mod UuidValue
 pub mod Stamps
 pub mod Texts
 pub mod Cases
+pub mod Appends

@@ -1,16 +1,17 @@
 -- What a step of the walk gives, and what that says of the body: each by the tests of its definition.
-use Prim.Native.Nat.{ℕ, ◌+◌, ◌-◌, ◌*◌, ◌%◌, ◌≤◌}
+use Prim.Native.Nat.{ℕ, ◌+◌, ◌-◌, ◌*◌, ◌%◌, ◌<◌, ◌≤◌}
 use mathlib.Core.Path.{◌≡◌}
-use mathlib.Core.Bool.{false}
+use mathlib.Core.Bool.{true, false}
 use mathlib.Core.List.{List}
 use native.Mathlib.Omega.{arith}
 use lib.ListN.{length}
 use Rattle.fields.specs.Stored.{blocks_of, room_of, fill_of}
-use Rattle.fields.specs.Step.{len_at, kind_at, after, taken_at, end_with_data, step_of}
+use Rattle.fields.specs.Step.{len_at, kind_at, passed, after, taken_at, end_with_data, step_of}
 use Rattle.std.proofs.lemmas.Bool.Decides.{nat_tests}
-use Rattle.std.proofs.Common.{None, Some, Ok}
+use Rattle.std.proofs.Common.{None, Some, Ok, Err}
 use Rattle.fields.specs.declared.Cursor.{Cursor}
 use Rattle.fields.specs.declared.Taken.{Taken}
+use Rattle.fields.specs.declared.WalkRefusal.TheVariants.{Broken}
 
 -- length, type, data and fill make up the field's blocks
 pub room_fill : (n : ℕ) → 5 + n + fill_of n ≡ room_of n
@@ -28,6 +29,22 @@ pub took : (s : List ℕ) (c : Cursor) → c.place % 16 ≡ 0 → c.place ≤ le
     → step_of s c ≡ Ok (Some (taken_at s c))
 unfolding step_of
 took s c a b d e f h = grind (arith, nat_tests)
+
+-- the other outcomes behind that, and what is taken, made of what stands at the place
+module _ (s : List ℕ) (c : Cursor) (a : c.place % 16 ≡ 0) (b : c.place ≤ length s) (no : c.place ≡ length s → ⊥) (e : 16 ≤ length s - c.place) where
+  pub short : length s - c.place < room_of (len_at s c.place) → Err Broken ≡ step_of s c
+  unfolding step_of
+  short h = grind (arith, nat_tests)
+
+  module _ (f : room_of (len_at s c.place) ≤ length s - c.place) where
+    pub ended : end_with_data (kind_at s c.place) (len_at s c.place) ≡ true → Err Broken ≡ step_of s c
+    unfolding step_of
+    ended h = grind (arith, nat_tests)
+
+    pub built : (n m : ℕ) (d : Cursor) → end_with_data (kind_at s c.place) (len_at s c.place) ≡ false
+        → n ≡ len_at s c.place → m ≡ room_of (len_at s c.place) → d ≡ passed (c.place + m) c.in_record (kind_at s c.place)
+        → Ok (Some (record { kind = kind_at s c.place; len = n; next = d })) ≡ step_of s c
+    built n m d h hn hm hd = rw (hd, hn, hm, took s c a b no e f h)
 
 pub at_end : (s : List ℕ) (c : Cursor) → c.place % 16 ≡ 0 → c.place ≡ length s → step_of s c ≡ Ok None
 unfolding step_of

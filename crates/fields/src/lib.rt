@@ -23,7 +23,8 @@ pub struct Cursor {
     pub in_record: bool,
 }
 
-// A field: its type, the place of its first length byte, the length of its data, and its value.
+// A field: its type, the place of its first length byte, the length of its data, and its value. A type is a byte, here and in what
+// others ask of it: any byte is one, C has it so (clause TalcWalk), and the definitions say numbers (header_types, record_types).
 #[derive(Clone, Copy, Debug, PartialEq, Eq)]
 pub struct Field {
     pub kind: u8,

@@ -11,6 +11,7 @@ use crate::table::State;
 use crate::{entry, table};
 
 // The cancel mark of an entry that waits: no replay leaves it.
+// A number, as the marks are: there is no memory beside the state.
 const WAITING: u64 = 1;
 
 // A free entry is kept for the UUID; a taken one stays as it is.

@@ -28,7 +28,8 @@ fn has_zero(d: &[u8]) -> bool
     d.contains(&0)
 }
 
-// A text that is too long for its room, or BadText, or has a zero byte.
+// A text that is too long for its room, or BadText, or has a zero byte. Type and room come apart: any room is allowed, and a Column
+// has an invariant.
 #[tactic(auto, using(crate::proofs::Sevenbit::plain_zero, crate::proofs::Sevenbit::plain_fine), unfolding(crate::specs::Fit::unfit))]
 pub fn unfit(kind: u8, room: usize, d: &[u8]) -> bool
     ensures { result ≡ unfit_of kind room d.now }

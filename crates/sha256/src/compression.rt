@@ -1,6 +1,7 @@
 // The compression of a block, by value, and what goes in and out of it.
-ghost use Rattle.std.specs.Prelude.{◌≡◌, ◌+◌, ◌≤◌, length, take, drop};
+ghost use Rattle.std.specs.Prelude.{◌≡◌, ◌+◌, ◌/◌, ◌≤◌, length, take, drop};
 ghost use Rattle.sha256.specs.Sha256.{plus, Ch, Maj, three as three_of, Sum0, Sum1, Sigma0, Sigma1, round_of, rounds_of, sum_of, compress_of, schedule_of, word_of, words_of, initial, hash_of, digest_of};
+ghost use Rattle.sha256.specs.Running.{folds_of};
 
 use std::array;
 use words::numbers::high;
@@ -218,6 +219,14 @@ pub(super) fn fold(v: [u32; 8], b: &[u8; 64]) -> [u32; 8]
     ensures { result ≡ compress_of v (words_of 16 b.now) }
 {
     compress(v, block(b))
+}
+
+// The whole blocks of s taken in, straight from the slice.
+pub fn folds(v: [u32; 8], s: &[u8]) -> [u32; 8]
+    ensures { result ≡ folds_of v s.now (length s.now / 64) }
+{
+    let (blocks, _) = s.as_chunks();
+    blocks.iter().fold(v, fold)
 }
 
 // The bytes of a hash value.

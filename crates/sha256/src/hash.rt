@@ -3,7 +3,7 @@ ghost use Rattle.std.specs.Prelude.{◌≡◌, ◌+◌, ◌%◌, ◌^◌, ◌<�
 ghost use Rattle.sha256.specs.Sha256.{sha256};
 ghost use Rattle.sha256.specs.Running.{running_of, Takes, Ends};
 
-use super::compression::{begin, digest, fold};
+use super::compression::{begin, digest, fold, folds};
 use words::slices::first;
 
 // What is kept of the bytes so far: the hash value of their whole blocks, their number modulo 2^64, and the bytes after the last whole
@@ -73,8 +73,8 @@ impl Running {
         requires { self.len % 64 ≡ 0 }
         ensures { Takes self s.now result }
     {
-        let (blocks, left) = s.as_chunks();
-        let v = blocks.iter().fold(self.v, fold);
+        let (_, left) = s.as_chunks::<64>();
+        let v = folds(self.v, s);
         let len = self.advanced(s);
         let tail = first(left);
         Running { v, len, tail }

@@ -63,7 +63,7 @@ impl Mac {
         Mac { inner, outer }
     }
 
-    // The same, in place.
+    // The same, in place: the thin form that document 01 has.
     pub fn absorb(&mut self, piece: &[u8])
         ensures { MacTakes self.old piece.now self.new }
     {

@@ -6,7 +6,8 @@ use super::round::swap;
 use super::{Block, Schedule};
 
 impl Schedule {
-    // Both take two rounds a turn: the words then stay in registers.
+    // Both take two rounds a turn: the words then stay in registers. There and back are two definitions (Cipher.antt), neither an
+    // instance of the other.
     pub fn encrypt(&self, x: Block) -> Block
         ensures { result ≡ tabled_encrypt self.now x }
     {

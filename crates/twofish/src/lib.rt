@@ -21,7 +21,7 @@ pub struct Block {
     pub d: u32,
 }
 
-// Three blocks side by side.
+// Three blocks side by side, by name too.
 #[derive(Clone, Copy)]
 pub struct Three {
     pub x: Block,

@@ -11,7 +11,8 @@ mod table;
 ghost use Rattle.uuids.specs.Uuids.{uuids_from, Repeats};
 
 // Batch by batch: each is tried against all that come later, as far as the best answer so far. The answer is the number of a UUID,
-// from 0, among those from the place on; None where no two are the same.
+// from 0, among those from the place on; None where no two are the same. The next place is
+// where the batch ends: no index is counted.
 pub fn repeated(body: &[u8], from: usize) -> Option<usize>
     ensures { Repeats (uuids_from body.now from) result }
 {

@@ -4,6 +4,7 @@ ghost use Rattle.uuids.specs.Batches.{Stepping};
 use words::numbers::word_at;
 
 // The place of a UUID's 16 bytes: of a field of type 01, with 16 bytes of data. Where no field fits any more, none follows.
+// By a place: the next is where the field ends, and no index is counted.
 pub fn next_uuid(body: &[u8], from: usize) -> Option<usize>
     ensures { Stepping body.now from result }
 {

@@ -1,12 +1,14 @@
 -- A test and what it says, for one element and for each of a list: by cases on the answers.
-use Prim.Native.Nat.{ℕ, zero, suc, ◌<◌, ◌≤◌}
+use Prim.Native.Nat.{ℕ, zero, suc, ◌+◌, ◌<◌, ◌≤◌}
 use mathlib.Core.Path.{◌≡◌, refl, ap}
 use mathlib.Core.Logic.{◌↔◌}
 use mathlib.Core.Bool.{Bool, true, false, cond, ◌&&◌, false≢true}
 use mathlib.Core.List.{List, [], ◌∷◌, ◌++◌}
 use native.Mathlib.Omega.{arith}
+use native.Mathlib.Numerals.{add-one}
 use lib.Dec.{eqb, leb}
-use lib.ListN.{length, get_or}
+use lib.ListN.{length, get_or, drop, drop_of_length-le}
+use lib.Seq.{drop-cons}
 use borrow.Author.Tests.{eqb-true, eq-eqb, eqb-false, leb-true, le-leb}
 use Rattle.std.specs.List.{list_all}
 use Rattle.words.specs.Each.{Each, all_in}
@@ -65,3 +67,11 @@ each_from P (a ∷ l) d h = (h 0 (omega arith), each_from P l d (λ k g. h (suc 
 pub all_is : {A : Type 0} (t : A → Bool) (l : List A) → list_all t l ≡ all_in t l
 all_is t [] = refl
 all_is t (a ∷ l) = ap (λ (b : Bool). t a && b) (all_is t l)
+
+-- a test of each element, as a loop goes on: of the next one and of those behind it, and of none
+module _ {A : Type 0} (t : A → Bool) (l : List A) (d : A) (i : ℕ) where
+  pub all_on : i < length l → all_in t (drop i l) ≡ (t (get_or l i d) && all_in t (drop (i + 1) l))
+  all_on h = rw (add-one, drop-cons l i d h)
+
+  pub all_end : length l ≤ i → all_in t (drop i l) ≡ true
+  all_end h = rw (drop_of_length-le l {i = i} h)

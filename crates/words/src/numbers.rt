@@ -2,7 +2,7 @@
 ghost use Rattle.std.specs.Prelude.{◌≡◌, [], ◌∷◌, ◌+◌, ◌*◌, ◌%◌, ◌≤◌, ◌^◌, length, take, drop};
 ghost use Rattle.words.specs.Numbers.{number_low, number_high, byte_of};
 
-// The word of four bytes, the lowest first.
+// The word of four bytes, the lowest first. Two of std's conversions, this and the next, each under its own definition.
 pub fn low(a: u8, b: u8, c: u8, d: u8) -> u32
     ensures { result ≡ number_low (a ∷ b ∷ c ∷ d ∷ []) }
 {
