@@ -2,6 +2,7 @@
 use mathlib.Core.Path.{◌≡◌, refl, sym, ap, ap₂, ◌∙◌}
 use mathlib.Core.List.{List}
 use Prim.Native.Nat.{ℕ, ◌+◌, ◌*◌, ◌/◌, ◌%◌, ◌^◌}
+use native.Mathlib.Nat.{add-zero}
 use native.Mathlib.Omega.{arith}
 use borrow.Author.Tests.{eq-eqb, ne_eqb}
 use Rattle.words.specs.Rotation.{rotate_left}
@@ -22,11 +23,18 @@ module _ (q0 q1 : ℕ → ℕ) (e o : List ℕ) (i : ℕ) where
       let q : (2 * i + 1) / 2 ≡ i = omega arith in
       rw (ne_eqb ((2 * i + 1) % 2) 0 p, q) refl
 
-  pub even : {a b v : ℕ} → a ≡ word_a q0 q1 e i → b ≡ word_b q0 q1 o i → v ≡ (a + b) % 2 ^ 32 → v ≡ subkey q0 q1 e o (2 * i)
+  pub even : {a b v : ℕ} → a ≡ word_a q0 q1 e i → b ≡ word_b q0 q1 o i → v ≡ (a + b + 0) % 2 ^ 32 → v ≡ subkey q0 q1 e o (2 * i)
   even p q r =
-      r ∙ ap₂ (λ (x y : ℕ). (x + y) % 2 ^ 32) p q ∙ sym even_is
+      r
+      ∙ ap₂ (λ (x y : ℕ). (x + y + 0) % 2 ^ 32) p q
+      ∙ ap (λ (x : ℕ). x % 2 ^ 32) (add-zero (word_a q0 q1 e i + word_b q0 q1 o i))
+      ∙ sym even_is
 
-  pub odd : {a b u v : ℕ} → a ≡ word_a q0 q1 e i → b ≡ word_b q0 q1 o i → u ≡ (a + 2 * b) % 2 ^ 32 → v ≡ rotate_left 32 9 u
+  pub odd : {a b u v : ℕ} → a ≡ word_a q0 q1 e i → b ≡ word_b q0 q1 o i → u ≡ (a + 2 * b + 0) % 2 ^ 32 → v ≡ rotate_left 32 9 u
       → v ≡ subkey q0 q1 e o (2 * i + 1)
   odd p q r z =
-      z ∙ ap (rotate_left 32 9) (r ∙ ap₂ (λ (x y : ℕ). (x + 2 * y) % 2 ^ 32) p q) ∙ sym odd_is
+      z
+      ∙ ap (rotate_left 32 9)
+      (r ∙ ap₂ (λ (x y : ℕ). (x + 2 * y + 0) % 2 ^ 32) p q
+      ∙ ap (λ (x : ℕ). x % 2 ^ 32) (add-zero (word_a q0 q1 e i + 2 * word_b q0 q1 o i)))
+      ∙ sym odd_is

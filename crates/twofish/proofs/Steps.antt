@@ -10,26 +10,16 @@ use Rattle.twofish.specs.declared.Three.{Three}
 use Rattle.twofish.specs.Beside.{threefold}
 use Rattle.twofish.proofs.Rounds.{blocks}
 
--- a sum modulo 2^32, and one word more
-more : (x k : ℕ) → (x % 2 ^ 32 + k) % 2 ^ 32 ≡ (x + k) % 2 ^ 32
-more x k = omega arith
-
 module _ (g k : ℕ → ℕ) where
   -- the two words of F, of words a and b
   module _ (r a b : ℕ) {y t z : ℕ} (ey : y ≡ g a) (et : t ≡ rotate_left 32 8 b) (ez : z ≡ g t) where
-    pub F0_made : {p f : ℕ} → p ≡ (y + z) % 2 ^ 32 → f ≡ (p + k (2 * r + 8)) % 2 ^ 32 → f ≡ F0 g k r a b
+    pub F0_made : {f : ℕ} → f ≡ (y + z + k (2 * r + 8)) % 2 ^ 32 → f ≡ F0 g k r a b
     unfolding F0
-    F0_made ep e =
-        e
-        ∙ ap (λ (u : ℕ). (u + k (2 * r + 8)) % 2 ^ 32) (ep ∙ ap₂ (λ (u v : ℕ). (u + v) % 2 ^ 32) ey (ez ∙ ap g et))
-        ∙ more (g a + g (rotate_left 32 8 b)) (k (2 * r + 8))
+    F0_made e = e ∙ ap₂ (λ (u v : ℕ). (u + v + k (2 * r + 8)) % 2 ^ 32) ey (ez ∙ ap g et)
 
-    pub F1_made : {p f : ℕ} → p ≡ (y + 2 * z) % 2 ^ 32 → f ≡ (p + k (2 * r + 9)) % 2 ^ 32 → f ≡ F1 g k r a b
+    pub F1_made : {f : ℕ} → f ≡ (y + 2 * z + k (2 * r + 9)) % 2 ^ 32 → f ≡ F1 g k r a b
     unfolding F1
-    F1_made ep e =
-        e
-        ∙ ap (λ (u : ℕ). (u + k (2 * r + 9)) % 2 ^ 32) (ep ∙ ap₂ (λ (u v : ℕ). (u + 2 * v) % 2 ^ 32) ey (ez ∙ ap g et))
-        ∙ more (g a + 2 * g (rotate_left 32 8 b)) (k (2 * r + 9))
+    F1_made e = e ∙ ap₂ (λ (u v : ℕ). (u + 2 * v + k (2 * r + 9)) % 2 ^ 32) ey (ez ∙ ap g et)
 
   -- a round each way with them
   module _ (r a b c d : ℕ) {f f' p q : ℕ} (e : f ≡ F0 g k r a b) (e' : f' ≡ F1 g k r a b) where

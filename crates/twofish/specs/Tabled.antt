@@ -10,9 +10,10 @@ use Rattle.twofish.specs.Cipher.{encrypt, decrypt}
 use Rattle.twofish.specs.declared.Block.{Block}
 use Rattle.twofish.specs.declared.Schedule.{Schedule}
 
--- q0 and q1 by their numbers
-unfoldable pub q : ℕ → ℕ → ℕ
-q n x = cond (eqb n 0) (q0 x) (q1 x)
+module _ (q0 q1 : ℕ → ℕ) where
+  -- q0 and q1 by their numbers; a number past 1 counts as 1
+  unfoldable pub q : ℕ → ℕ → ℕ
+  q n x = cond (eqb n 0) (q0 x) (q1 x)
 
 module _ (q0 q1 : ℕ → ℕ) (l : List ℕ) where
   -- y0 to y3 by their numbers; a j past 3 counts as 3

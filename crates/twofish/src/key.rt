@@ -1,8 +1,7 @@
-// The key schedule. A list l of four words is given by its 16 bytes.
+// The key schedule. t0 and t1 are the tables of q0 and q1; a list l of four words is given by its 16 bytes.
 ghost use Rattle.std.specs.Prelude.{◌≡◌, ◌+◌, ◌*◌, ◌/◌, ◌%◌, ◌^◌, ◌<◌};
 ghost use Rattle.words.specs.Table.{at, table};
 ghost use Rattle.twofish.specs.Field.{dot};
-ghost use Rattle.twofish.specs.Q.{q0, q1};
 ghost use Rattle.twofish.specs.Key.{h as h_of, eight, box_key, word_a, word_b, subkeys as subkeys_of};
 ghost use Rattle.twofish.specs.Tabled.{y as y_of};
 
@@ -22,25 +21,25 @@ static ORDER: [[usize; 5]; 4] = [
 ];
 
 // Byte j of a word, x, through q0 and q1 in that order, with byte j of each word of l in between; a j past 3 counts as 3.
-pub fn y(l: &[u8; 16], j: usize, x: u8) -> u8
-    ensures { result ≡ y_of q0 q1 l.now j x }
+pub fn y(t0: &[u8; 256], t1: &[u8; 256], l: &[u8; 16], j: usize, x: u8) -> u8
+    ensures { result ≡ y_of (at t0.now) (at t1.now) l.now j x }
 {
     let j = j.min(3);
     let o = &ORDER[j];
-    let a = q(o[0], x) ^ l[12 + j];
-    let b = q(o[1], a) ^ l[8 + j];
-    let c = q(o[2], b) ^ l[4 + j];
-    let d = q(o[3], c) ^ l[j];
-    q(o[4], d)
+    let a = q(t0, t1, o[0], x) ^ l[12 + j];
+    let b = q(t0, t1, o[1], a) ^ l[8 + j];
+    let c = q(t0, t1, o[2], b) ^ l[4 + j];
+    let d = q(t0, t1, o[3], c) ^ l[j];
+    q(t0, t1, o[4], d)
 }
 
-fn h(l: &[u8; 16], x: u32) -> u32
-    ensures { result ≡ h_of q0 q1 l.now x }
+pub fn h(t0: &[u8; 256], t1: &[u8; 256], l: &[u8; 16], x: u32) -> u32
+    ensures { result ≡ h_of (at t0.now) (at t1.now) l.now x }
 {
-    entry(l, 0, byte(x, 0))
-        ^ entry(l, 1, byte(x, 1))
-        ^ entry(l, 2, byte(x, 2))
-        ^ entry(l, 3, byte(x, 3))
+    entry(t0, t1, l, 0, byte(x, 0))
+        ^ entry(t0, t1, l, 1, byte(x, 1))
+        ^ entry(t0, t1, l, 2, byte(x, 2))
+        ^ entry(t0, t1, l, 3, byte(x, 3))
 }
 
 static RS: [[u8; 8]; 4] = [
@@ -79,38 +78,41 @@ fn every_other(m: &[u8; 32], from: usize) -> [u8; 16]
 }
 
 // Two words of a pair, by two formulas of the paper.
-fn word_a(e: &[u8; 16], i: u32) -> u32
+fn word_a(t0: &[u8; 256], t1: &[u8; 256], e: &[u8; 16], i: u32) -> u32
     requires { i < 20 }
-    ensures { result ≡ word_a q0 q1 e.now i }
+    ensures { result ≡ word_a (at t0.now) (at t1.now) e.now i }
 {
-    h(e, 2 * i * 0x01010101)
+    h(t0, t1, e, 2 * i * 0x01010101)
 }
 
-fn word_b(o: &[u8; 16], i: u32) -> u32
+fn word_b(t0: &[u8; 256], t1: &[u8; 256], o: &[u8; 16], i: u32) -> u32
     requires { i < 20 }
-    ensures { result ≡ word_b q0 q1 o.now i }
+    ensures { result ≡ word_b (at t0.now) (at t1.now) o.now i }
 {
-    left(h(o, (2 * i + 1) * 0x01010101), 8)
+    left(h(t0, t1, o, (2 * i + 1) * 0x01010101), 8)
 }
 
-// The pseudo-Hadamard transform of two words (4.3): a + b and a + 2 b.
-pub fn transformed(a: u32, b: u32) -> (u32, u32)
-    ensures first { result.0 ≡ (a + b) % 2 ^ 32 }
-    ensures second { result.1 ≡ (a + 2 * b) % 2 ^ 32 }
+// The pseudo-Hadamard transform of two words (4.3), a + b and a + 2 b, and to each a word more, modulo 2^32.
+pub fn transformed(a: u32, b: u32, k: u32, l: u32) -> (u32, u32)
+    ensures first { result.0 ≡ (a + b + k) % 2 ^ 32 }
+    ensures second { result.1 ≡ (a + 2 * b + l) % 2 ^ 32 }
 {
-    (a.wrapping_add(b), a.wrapping_add(b.wrapping_mul(2)))
+    (
+        a.wrapping_add(b).wrapping_add(k),
+        a.wrapping_add(b.wrapping_mul(2)).wrapping_add(l),
+    )
 }
 
 // The 40 subkeys.
-pub fn subkeys(m: &[u8; 32]) -> [u32; 40]
-    ensures { result ≡ subkeys_of q0 q1 m.now }
+pub fn subkeys(t0: &[u8; 256], t1: &[u8; 256], m: &[u8; 32]) -> [u32; 40]
+    ensures { result ≡ subkeys_of (at t0.now) (at t1.now) m.now }
 {
     let e = every_other(m, 0);
     let o = every_other(m, 4);
     let mut k = [0u32; 40];
     // By ranges: of an array that std lends in chunks nothing is known afterwards.
     for i in 0..20 {
-        let (a, b) = transformed(word_a(&e, i), word_b(&o, i));
+        let (a, b) = transformed(word_a(t0, t1, &e, i), word_b(t0, t1, &o, i), 0, 0);
         let j = 2 * i as usize;
         k[j] = a;
         k[j + 1] = left(b, 9);

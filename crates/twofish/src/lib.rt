@@ -5,11 +5,11 @@
 mod beside;
 pub mod blocks;
 mod cipher;
-mod field;
-mod key;
-mod q;
+pub mod field;
+pub mod key;
+pub mod q;
 mod round;
-mod tables;
+pub mod tables;
 
 // A block: four words.
 // By name, as the paper's rounds have them (specs/Cipher.antt).

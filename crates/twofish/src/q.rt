@@ -1,5 +1,7 @@
 // The permutations q0 and q1 of the bytes, as full tables.
-ghost use Rattle.std.specs.Prelude.{◌≡◌, ◌<◌};
+ghost use Rattle.std.specs.Prelude.{◌≡◌};
+ghost use Rattle.words.specs.Table.{at};
+ghost use Rattle.twofish.specs.Q.{table0, table1};
 ghost use Rattle.twofish.specs.Tabled.{q};
 
 static TABLES: [[u8; 256]; 2] = [
@@ -45,10 +47,22 @@ static TABLES: [[u8; 256]; 2] = [
     ],
 ];
 
-// q0 of x for a 0, q1 of x for a 1.
-pub fn q(n: usize, x: u8) -> u8
-    requires { n < 2 }
-    ensures { result ≡ q n x }
+// Those of q0 and of q1, lent, so that no use of them is a copy.
+pub fn tables() -> (&'static [u8; 256], &'static [u8; 256])
+    ensures first { result.0.now ≡ table0 }
+    ensures second { result.1.now ≡ table1 }
 {
-    TABLES[n][x as usize]
+    (&TABLES[0], &TABLES[1])
+}
+
+// x through the first of two tables for a 0, else through the second.
+#[tactic(auto, unfolding(crate::specs::Tabled::q))]
+pub(crate) fn q(t0: &[u8; 256], t1: &[u8; 256], n: usize, x: u8) -> u8
+    ensures { result ≡ q (at t0.now) (at t1.now) n x }
+{
+    if n == 0 {
+        t0[x as usize]
+    } else {
+        t1[x as usize]
+    }
 }

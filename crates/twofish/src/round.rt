@@ -26,10 +26,11 @@ impl Schedule {
         ensures first { result.0 ≡ F0 (tabled_g self.now.g) (at self.now.k) i a b }
         ensures second { result.1 ≡ F1 (tabled_g self.now.g) (at self.now.k) i a b }
     {
-        let (p, q) = transformed(self.g(a), self.g(left(b, 8)));
-        (
-            p.wrapping_add(self.k[2 * i + 8]),
-            q.wrapping_add(self.k[2 * i + 9]),
+        transformed(
+            self.g(a),
+            self.g(left(b, 8)),
+            self.k[2 * i + 8],
+            self.k[2 * i + 9],
         )
     }
 

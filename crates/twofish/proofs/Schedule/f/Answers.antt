@@ -2,7 +2,6 @@
 use Rattle.words.specs.Table.{at}
 use Rattle.twofish.specs.Tabled.{tabled_g}
 use Rattle.twofish.proofs.Steps.{F0_made, F1_made}
-use mathlib.Core.Path.{refl}
 use Rattle.twofish.proofs.Schedule.f.Goals as goal
 
 pub returns : goal.returns
@@ -11,8 +10,8 @@ returns c =
     let s = a.self.now in
     let g = tabled_g s.g in
     let k = at s.k in
-    let t = c.transformed-p.ensures in
+    let t = c.transformed.ensures in
     record {
-      first = F0_made g k a.i a.a a.b c.g.ensures c.left.ensures c.g-2.ensures t.first refl;
-      second = F1_made g k a.i a.a a.b c.g.ensures c.left.ensures c.g-2.ensures t.second refl;
+      first = F0_made g k a.i a.a a.b c.g.ensures c.left.ensures c.g-2.ensures t.first;
+      second = F1_made g k a.i a.a a.b c.g.ensures c.left.ensures c.g-2.ensures t.second;
     }

@@ -6,4 +6,14 @@ use Rattle.twofish.proofs.Schedule.new.Goals as goal
 pub returns : goal.returns
 unfolding schedule_of
 returns c =
-    rw (c.fill.ensures, c.fill-2.ensures, c.fill-3.ensures, c.fill-4.ensures, c.box_key-s.ensures, c.subkeys.ensures) refl
+    rw (
+      c.fill.ensures,
+      c.fill-2.ensures,
+      c.fill-3.ensures,
+      c.fill-4.ensures,
+      c.box_key-s.ensures,
+      c.subkeys.ensures,
+      c.tables.ensures.first,
+      c.tables.ensures.second,
+    )
+    refl

@@ -1,5 +1,5 @@
 -- `twofish::tables::fill` meets its contract: after x turns the first x places hold their entries.
-use Rattle.twofish.specs.Q.{q0, q1}
+use Rattle.words.specs.Table.{at}
 use Rattle.twofish.specs.Tabled.{entry, filled}
 use Rattle.words.proofs.Tables.{table_more, is_table}
 use native.Mathlib.Omega.{arith}
@@ -11,7 +11,7 @@ loop-x-preserved c =
     let a = c.args in
     let o = c.loop-x in (
       simp length-set o.invariant.0,
-      table_more (entry q0 q1 a.s.now a.j) o.r o.x c.entry.result (omega arith) c.entry.ensures o.invariant.1,
+      table_more (entry (at a.t0.now) (at a.t1.now) a.s.now a.j) o.r o.x c.entry.result (omega arith) c.entry.ensures o.invariant.1,
     )
 
 pub returns : goal.returns
@@ -19,4 +19,4 @@ unfolding filled
 returns c =
     let a = c.args in
     let o = c.loop-x in
-    is_table 256 (entry q0 q1 a.s.now a.j) o.r o.invariant.0 (λ i h. o.invariant.1 i (omega arith))
+    is_table 256 (entry (at a.t0.now) (at a.t1.now) a.s.now a.j) o.r o.invariant.0 (λ i h. o.invariant.1 i (omega arith))
