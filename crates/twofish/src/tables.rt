@@ -35,12 +35,12 @@ impl Schedule {
         let s = box_key(key);
         Schedule {
             g: [
-                fill(t0, t1, &s, 0),
-                fill(t0, t1, &s, 1),
-                fill(t0, t1, &s, 2),
-                fill(t0, t1, &s, 3),
+                fill(&t0, &t1, &s, 0),
+                fill(&t0, &t1, &s, 1),
+                fill(&t0, &t1, &s, 2),
+                fill(&t0, &t1, &s, 3),
             ],
-            k: subkeys(t0, t1, key),
+            k: subkeys(&t0, &t1, key),
         }
     }
 }
