@@ -6,6 +6,7 @@ pub mod Places
 pub mod Visits
 pub mod Lookup
 pub mod Marks
+pub mod Blank
 pub mod Tidy
 pub mod Placed
 pub mod Count

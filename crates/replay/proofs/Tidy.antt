@@ -8,7 +8,7 @@ use native.Mathlib.Nat.{eq-or-lt_of_le}
 use native.Mathlib.Omega.{arith}
 use lib.Dec.{eqb, ltb}
 use borrow.Author.Tests.{eq-eqb, ne_eqb, lt-ltb, le-ltb, eqb-true, ltb-true}
-use lib.ListN.{length, take, drop}
+use lib.ListN.{length}
 use Rattle.words.specs.Numbers.{number_low}
 use Rattle.words.specs.Slices.{zeros, same}
 use Rattle.words.proofs.SliceLaws.{same_true}
@@ -16,17 +16,9 @@ use Rattle.replay.specs.Trace.{Event}
 use Rattle.replay.specs.State.{entry_at, cancel_of, reissue_of, entry_of, is_mark, tidy, tidy_to, is_state, mark_of}
 use Rattle.words.proofs.Either.{lt_or_ge, eq_or_ne}
 use Rattle.replay.proofs.Tests.{no}
+use Rattle.replay.proofs.Blank.{none_in}
 use Rattle.replay.proofs.Entries.{entry_cancel, entry_reissue}
 use Rattle.replay.proofs.Marks.{of_kind, of_other}
-
--- any part of zeros
-none_in : (k p n : ℕ) → number_low (take k (drop p (zeros n))) ≡ 0
-unfolding number_low
-none_in zero p n = refl
-none_in (suc k) zero zero = refl
-none_in (suc k) (suc p) zero = refl
-none_in (suc k) zero (suc n) = let z : number_low (take k (zeros n)) ≡ 0 = none_in k zero n in omega arith
-none_in (suc k) (suc p) (suc n) = none_in (suc k) p n
 
 -- a test after another
 pub both : (a b : Bool) → cond a b false ≡ true → (a ≡ true) × (b ≡ true)

@@ -1,12 +1,12 @@
 -- Bytes and zeros: where the first zero byte stands, whether there is one, and whether all are. By recursion on the list.
 use Prim.Native.Nat.{ℕ, zero, suc, ◌+◌, ◌≤◌}
 use mathlib.Core.Path.{◌≡◌, refl, sym, ap, ◌∙◌}
-use mathlib.Core.Bool.{Bool, true, false, cond, ◌&&◌}
+use mathlib.Core.Bool.{Bool, true, false, cond, ◌&&◌, ◌||◌}
 use mathlib.Core.List.{List, [], ◌∷◌}
 use native.Mathlib.Omega.{arith}
-use lib.Dec.{eqb, ltb, eqb-suc-zero, eqb-zero-suc}
+use lib.Dec.{eqb, ltb, leb-suc-suc, eqb-suc-zero, eqb-zero-suc}
 use lib.ListN.{length}
-use borrow.Author.Tests.{ltb-false}
+use borrow.Author.Tests.{ne_eqb, eqb-true, eqb-false, lt-ltb, ltb-false}
 use Rattle.std.specs.Prelude.{Some, None, unwrap_or}
 use Rattle.std.specs.List.{list_any, list_all, position_or_len, position}
 use Rattle.std.proofs.lemmas.List.Recursion.{is_position_or_len}
@@ -53,3 +53,14 @@ no_other (b ∷ d) = by (eqb b 0) (no_other d)
     by : (t : Bool) → list_all (λ b. eqb b 0) d ≡ same d (zeros (length d)) → (t && list_all (λ b. eqb b 0) d) ≡ cond t (same d (zeros (length d))) false
     by true h = h
     by false h = refl
+
+-- a zero byte stands among them where fewer than all are before the first
+pub zero_inside : (d : List ℕ) → among 0 d ≡ ltb (before_zero d) (length d)
+unfolding before_zero
+zero_inside [] = refl
+zero_inside (b ∷ d) = by (eqb b 0) refl (zero_inside d)
+  where
+    by : (t : Bool) → eqb b 0 ≡ t → among 0 d ≡ ltb (before_zero d) (length d)
+        → (eqb 0 b || among 0 d) ≡ ltb (cond t 0 (suc (before_zero d))) (suc (length d))
+    by true e h = rw (eqb-true b 0 e) (sym (lt-ltb 0 (suc (length d)) (omega arith)))
+    by false e h = rw (ne_eqb 0 b (λ z. eqb-false b 0 e (sym z)), leb-suc-suc (suc (before_zero d)) (length d)) h

@@ -1,6 +1,7 @@
 -- The answers of reading and writing by document 01's numbers, and their values.
 use Rattle.std.specs.Prelude.{ℕ, List, Result, Ok, Err}
 use Rattle.words.specs.Slices.{zeros}
+use Rattle.body.specs.declared.Counts.{Counts}
 use Rattle.file.specs.Reading.{Report}
 use Rattle.safe.specs.declared.Refusal.{Refusal}
 use Rattle.safe.specs.declared.Refusal.TheVariants.{Length, Passphrase, Room, Tag, Floor, Ceiling, Marker, Check, Body, Block}
@@ -40,6 +41,11 @@ header_count (Err x) = 0
 abbrev pub record_count : Result Opened Refusal → ℕ
 record_count (Ok o) = o.counts.records
 record_count (Err x) = 0
+
+-- the outcome without the keys
+abbrev pub counted : Result Opened Refusal → Result Counts Refusal
+counted (Ok o) = Ok o.counts
+counted (Err x) = Err x
 
 -- a reading's answer and the body that the workspace then holds, as a report
 unfoldable pub reported : Reading → List ℕ → Report

@@ -9,7 +9,7 @@ mod settle;
 
 ghost use Rattle.std.specs.Prelude.{◌≡◌, []};
 ghost use Rattle.file.specs.Reading.{refused as refused_of};
-ghost use Rattle.safe.specs.Answers.{refusal_number, reported};
+ghost use Rattle.safe.specs.Answers.{refusal_number, counted, reported};
 ghost use Rattle.safe.specs.Calls.{Reads, Writes};
 
 use assemble::Values;
@@ -58,6 +58,18 @@ pub struct Reading {
     pub outcome: Result<Opened, Refusal>,
     pub compressions: u64,
     pub blocks: u64,
+}
+
+impl Reading {
+    // The outcome without the keys, to be copied and compared.
+    pub fn counts(&self) -> Result<Counts, Refusal>
+        ensures { result ≡ counted self.now.outcome }
+    {
+        match &self.outcome {
+            Ok(opened) => Ok(opened.counts),
+            Err(x) => Err(*x),
+        }
+    }
 }
 
 #[tactic(auto, unfolding(crate::specs::Answers::reported, file::specs::Reading::refused))]

@@ -1,7 +1,8 @@
 -- The three ways that a piece is taken into a running hash: it leaves the block open, it ends it, or it follows whole blocks. Each by what the hash value after so many blocks does not look at.
-use Rattle.std.proofs.Common.{◌≡◌, ℕ, zero, suc, ◌+◌, ◌-◌, ◌*◌, ◌/◌, ◌%◌, ◌^◌, ◌<◌, ◌≤◌, List, [], ◌∷◌, ◌++◌, length, take, drop, replicate, sym, refl, ap, ◌∙◌, ap₂, append_assoc, add-zero, add-one, arith, length-append, length-drop, drop_of_length-le, length-take-le, take-append-drop, take_all, drop_at}
+use Rattle.std.proofs.Common.{◌≡◌, ℕ, zero, suc, ◌+◌, ◌-◌, ◌*◌, ◌/◌, ◌%◌, ◌^◌, ◌<◌, ◌≤◌, List, [], ◌∷◌, ◌++◌, length, take, drop, replicate, sym, refl, ap, ◌∙◌, ap₂, append_assoc, add-zero, add-one, arith, length-append, length-drop, drop_of_length-le, take_all, get_or-take}
 use lib.ListN.{get_or-append}
-use lib.Seq.{take-append_seam, drop-append-add, drop-append-le}
+use lib.Seq.{take-append_seam, drop-append-add, drop-append-le, drop-drop}
+use Rattle.std.proofs.lemmas.List.{drop-take}
 use Rattle.words.specs.Slices.{zeros, copied}
 use Rattle.words.proofs.ByteLaws.{drop_same}
 use Rattle.sha256.specs.Sha256.{word_of, words_of, compress_of, hash_value}
@@ -23,6 +24,18 @@ words_front (suc n) a b h =
     let k : 4 ≤ length a = omega arith in
     rw drop-append-le (ap₂ ◌∷◌ (word_front a b k) (words_front n (drop 4 a) b (omega arith)))
 
+word_taken : (n : ℕ) (l : List ℕ) → 4 ≤ n → word_of (take n l) ≡ word_of l
+unfolding word_of
+word_taken n l h =
+    cc (get_or-take n l 0 0 (omega arith), get_or-take n l 1 0 (omega arith), get_or-take n l 2 0 (omega arith), get_or-take n l 3 0 (omega arith))
+
+words_taken : (n : ℕ) (l : List ℕ) → words_of n (take (4 * n) l) ≡ words_of n l
+unfolding words_of
+words_taken zero l = refl
+words_taken (suc n) l =
+    let e : 4 * suc n ≡ 4 + 4 * n = omega arith in
+    ap₂ ◌∷◌ (word_taken (4 * suc n) l (omega arith)) (ap (words_of n) (ap (λ (x : ℕ). drop 4 (take x l)) e ∙ drop-take 4 (4 * n) l) ∙ words_taken n (drop 4 l))
+
 -- ---- the blocks of a message, and of what follows it
 
 front : (m d : List ℕ) (n : ℕ) → n * 64 ≤ length m → hash_value (m ++ d) n ≡ hash_value m n
@@ -40,19 +53,24 @@ next l n =
     let e : 64 * n ≡ n * 64 = omega arith in
     rw (add-one, e) refl
 
-beyond : (n : ℕ) (m d : List ℕ) (p : ℕ) → length m ≡ p * 64 → n * 64 ≤ length d → hash_value (m ++ d) (p + n) ≡ folds_of (hash_value m p) d n
+-- one block more, taken into a hash value: of a list that may end before it
+folds_next : (n : ℕ) (v d : List ℕ) → folds_of v d (suc n) ≡ compress_of (folds_of v d n) (words_of 16 (drop (n * 64) d))
 unfolding folds_of
-beyond zero m d p h k = rw add-zero (front m d p (omega arith))
-beyond (suc n) m d p h k =
-    let b : List ℕ = take 64 d in
-    let l : length b ≡ 64 = length-take-le 64 d (omega arith) in
-    let lb : length (m ++ b) ≡ length m + length b = length-append m b in
-    let e : p + suc n ≡ p + 1 + n = omega arith in
-    let s : m ++ d ≡ (m ++ b) ++ drop 64 d = ap (λ (x : List ℕ). m ++ x) (sym (take-append-drop 64 d)) ∙ sym (append_assoc m b (drop 64 d)) in
-    let o : hash_value (m ++ b) (p + 1) ≡ compress_of (hash_value m p) (words_of 16 b) =
-    next (m ++ b) p ∙ ap₂ compress_of (front m b p (omega arith)) (ap (words_of 16) (drop_at m b (p * 64) h)) in
-    ap₂ hash_value s e ∙ beyond n (m ++ b) (drop 64 d) (p + 1) (omega arith) (omega (arith, length-drop 64 d))
-    ∙ ap (λ (v : List ℕ). folds_of v (drop 64 d) n) o
+folds_next zero v d = ap (compress_of v) (words_taken 16 d)
+folds_next (suc n) v d =
+    let e : 64 + n * 64 ≡ suc n * 64 = omega arith in
+    let w : List ℕ = compress_of v (words_of 16 (take 64 d)) in
+    folds_next n w (drop 64 d) ∙ ap (λ (x : List ℕ). compress_of (folds_of w (drop 64 d) n) (words_of 16 x)) (drop-drop (n * 64) 64 d ∙ ap (λ (x : ℕ). drop x d) e)
+
+beyond : (m d : List ℕ) (p n : ℕ) → length m ≡ p * 64 → hash_value (m ++ d) (p + n) ≡ folds_of (hash_value m p) d n
+unfolding folds_of
+beyond m d p zero h = rw add-zero (front m d p (omega arith))
+beyond m d p (suc n) h =
+    let e : p + suc n ≡ p + n + 1 = omega arith in
+    let f : (p + n) * 64 ≡ length m + n * 64 = omega arith in
+    ap (λ (x : ℕ). hash_value (m ++ d) x) e ∙ next (m ++ d) (p + n)
+    ∙ ap₂ compress_of (beyond m d p n h) (ap (words_of 16) (ap (λ (x : ℕ). drop x (m ++ d)) f ∙ drop-append-add m d (n * 64)))
+    ∙ sym (folds_next n (hash_value m p) d)
 
 -- ---- what is left after the whole blocks
 
@@ -153,6 +171,6 @@ module _ (m d : List ℕ) where
         let i : length (m ++ d) / 64 * 64 ≡ length m + length d / 64 * 64 = omega arith in
         let l : left (m ++ d) ≡ left d = rw i (drop-append-add m d (length d / 64 * 64)) in
         same
-        (g ∙ ap (λ (x : List ℕ). folds_of x d (length d / 64)) v_is ∙ sym (beyond (length d / 64) m d (length m / 64) (omega arith) (omega arith)) ∙ ap (λ (x : ℕ). hash_value (m ++ d) x) (sym q))
+        (g ∙ ap (λ (x : List ℕ). folds_of x d (length d / 64)) v_is ∙ sym (beyond m d (length m / 64) (length d / 64) (omega arith)) ∙ ap (λ (x : ℕ). hash_value (m ++ d) x) (sym q))
         (counts len_is c)
         (u ∙ over_zeros (left d) (omega arith) ∙ ap tail_of (sym l))

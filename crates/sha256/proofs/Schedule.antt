@@ -1,5 +1,5 @@
 -- The schedule as it grows in an array of 64 words, and the rounds as they are taken eight at a time: by what is left of each.
-use Rattle.std.proofs.Common.{◌≡◌, ℕ, zero, suc, ◌+◌, ◌-◌, ◌*◌, ◌<◌, ◌≤◌, List, [], ◌∷◌, ◌++◌, length, take, drop, set, slice_index, refl, sym, ap, ◌∙◌, arith, length-drop, length-take-le, get_or-take, take_all, add-one}
+use Rattle.std.proofs.Common.{◌≡◌, ℕ, zero, suc, ◌+◌, ◌-◌, ◌*◌, ◌<◌, ◌≤◌, List, [], ◌∷◌, ◌++◌, length, take, drop, set, slice_index, refl, sym, ap, ◌∙◌, arith, length-append, length-drop, length-take-le, get_or-take, take_all, add-one}
 use Rattle.std.proofs.Math.Seq.{take-suc-set}
 use Rattle.std.specs.List.{fold, zip}
 use Rattle.std.specs.Simd.{first_chunks}
@@ -13,6 +13,25 @@ unfolding following back
 following_of w t h l =
     rw length-take-le
     (rw (get_or-take t w (t - 2) 0 (omega arith), get_or-take t w (t - 7) 0 (omega arith), get_or-take t w (t - 15) 0 (omega arith), get_or-take t w (t - 16) 0 (omega arith)) refl)
+
+-- a word before the rest is not looked at
+back_past : (a : ℕ) (w : List ℕ) (i : ℕ) → 1 ≤ i → i ≤ length w → back (a ∷ w) i ≡ back w i
+unfolding back
+back_past a w i h k =
+    let e : suc (length w) - i ≡ suc (length w - i) = omega arith in
+    ap (λ (n : ℕ). slice_index (a ∷ w) n) e
+
+following_past : (a : ℕ) (w : List ℕ) → 16 ≤ length w → following (a ∷ w) ≡ following w
+unfolding following
+following_past a w h =
+    cc (back_past a w 2 (omega arith) (omega arith), back_past a w 7 (omega arith) (omega arith), back_past a w 15 (omega arith) (omega arith), back_past a w 16 (omega arith) (omega arith))
+
+pub extended_past : (n a : ℕ) (w : List ℕ) → 16 ≤ length w → extended n (a ∷ w) ≡ a ∷ extended n w
+unfolding extended
+extended_past zero a w h = refl
+extended_past (suc n) a w h =
+    ap (λ (x : ℕ). extended n (a ∷ (w ++ (x ∷ [])))) (following_past a w h)
+    ∙ extended_past n a (w ++ (following w ∷ [])) (simp length-append (omega arith))
 
 pub one_more : (w m : List ℕ) (t x : ℕ) → 16 ≤ t → t < 64 → length w ≡ 64 → extended (64 - t) (take t w) ≡ schedule_of m
     → x ≡ word_after w t → extended (64 - (t + 1)) (take (t + 1) (set w t x)) ≡ schedule_of m

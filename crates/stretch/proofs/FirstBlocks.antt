@@ -56,16 +56,16 @@ unfolding compressions
 taken c l q e f g = rw add-one (cc)
 
 -- all blocks
-pub all_taken : (p s : List ℕ) (q : ℕ) → length s ≡ 32 → q ≡ (length p + 40) / 64 + 1 → compressions 0 (padded (p ++ s)) q ≡ start_of p s
+pub all_taken : (p s : List ℕ) (q : ℕ) → q ≡ (length p + length s + 8) / 64 + 1 → compressions 0 (padded (p ++ s)) q ≡ start_of p s
 unfolding start_of hashed
-all_taken p s q t e =
+all_taken p s q e =
     let l = length-append p s in
     let b = blocks_are (p ++ s) in
     let f : q ≡ length (padded (p ++ s)) / 64 = omega arith in
     ap (compressions 0 (padded (p ++ s))) f
 
-pub room_left : (p s : List ℕ) (q : ℕ) → length s ≡ 32 → q ≤ (length p + 40) / 64 → 64 * q + 64 ≤ length (padded (p ++ s))
-room_left p s q t h =
+pub room_left : (p s : List ℕ) (q : ℕ) → q < (length p + length s + 8) / 64 + 1 → 64 * q + 64 ≤ length (padded (p ++ s))
+room_left p s q h =
     let l = length-append p s in
     let w = whole_blocks_lem (p ++ s) in
     omega arith

@@ -5,6 +5,7 @@ ghost use Rattle.safe.specs.Calls.{number_of};
 ghost use Rattle.talcfeather.specs.Read.{numbers_given, TalcRead};
 
 use super::answer::{Answer, number, told};
+use body::Counts;
 use safe::{Opened, Reading, Refusal};
 
 impl Answer<4> for Reading {
@@ -17,10 +18,10 @@ impl Answer<4> for Reading {
     }
 
     fn numbers(&self) -> [u64; 4] {
-        match &self.outcome {
-            Ok(opened) => [
-                opened.counts.headers as u64,
-                opened.counts.records as u64,
+        match self.counts() {
+            Ok(Counts { headers, records }) => [
+                headers as u64,
+                records as u64,
                 self.compressions,
                 self.blocks,
             ],

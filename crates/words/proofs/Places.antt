@@ -1,11 +1,11 @@
 -- Four bytes of a list are those at four indices, and eight bytes are two words: by cases on the list, and by the number of two lists joined.
 use Prim.Native.Nat.{ℕ, ◌+◌, ◌*◌, ◌^◌, ◌≤◌}
-use mathlib.Core.Path.{◌≡◌, refl, ap, ◌∙◌}
+use mathlib.Core.Path.{◌≡◌, refl, sym, ap, ◌∙◌}
 use mathlib.Core.List.{List, [], ◌∷◌}
 use native.Mathlib.Nat.{add-zero}
 use native.Mathlib.Omega.{arith}
 use lib.ListN.{length, take, drop, get_or, length-drop}
-use lib.Seq.{get_or-drop, drop-drop, length-take-le, take-add}
+use lib.Seq.{get_or-drop, drop-drop, length-take-le, take-add, take_all}
 use Rattle.words.specs.Numbers.{number_low}
 use Rattle.words.proofs.NumberLaws.{number_append}
 
@@ -34,7 +34,10 @@ two_words s p h =
     ∙ rw (drop-drop 4 p s) (number_append (take 4 (drop p s)) (take 4 (drop (p + 4) s)))
     ∙ ap (λ (n : ℕ). number_low (take 4 (drop p s)) + 2 ^ (8 * n) * number_low (take 4 (drop (p + 4) s))) l
 
--- a list of two bytes is what stands at its indices
+-- a list of so many bytes is what stands at its indices
+pub whole_four : (d : List ℕ) → length d ≡ 4 → four_at d 0 ≡ d
+whole_four d h = sym (four d (omega arith)) ∙ take_all 4 d (omega arith)
+
 pub whole_two : (d : List ℕ) → length d ≡ 2 → number_low (get_or d 0 0 ∷ get_or d 1 0 ∷ 0 ∷ 0 ∷ []) ≡ number_low d
 unfolding number_low
 whole_two [] h = absurd (omega arith)

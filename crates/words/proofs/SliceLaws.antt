@@ -1,6 +1,6 @@
 -- What a copy over as many bytes is, what a part put after another leaves, what a part of a start is, and what a comparison tells. By recursion on the
 -- list, and by the lengths of its parts.
-use mathlib.Core.Path.{◌≡◌, refl, sym, ap₂, ◌∙◌}
+use mathlib.Core.Path.{◌≡◌, refl, sym, ap, ap₂, ◌∙◌}
 use mathlib.Core.Bool.{Bool, true, false, cond, ◌&&◌}
 use mathlib.Core.List.{List, [], ◌∷◌, ◌++◌, append_assoc, append-nil}
 use Prim.Native.Nat.{ℕ, zero, suc, ◌+◌, ◌≤◌}
@@ -61,3 +61,10 @@ same_true (a ∷ s) [] h = absurd (let z : ◌≡◌ {A = ℕ} 0 1 = cc in omega
 same_true (a ∷ s) (b ∷ t) h =
     let g = both (eqb a b) (same s t) h in
     ap₂ ◌∷◌ (eqb-true a b g.0) (same_true s t g.1)
+
+pub length_differs : (s t : List ℕ) → (length s ≡ length t → ⊥) → false ≡ same s t
+length_differs s t h = go (same s t) refl
+  where
+    go : (b : Bool) → same s t ≡ b → false ≡ b
+    go true e = absurd (h (ap length (same_true s t e)))
+    go false e = refl

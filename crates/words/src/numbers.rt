@@ -1,5 +1,5 @@
 // Numbers in bytes.
-ghost use Rattle.std.specs.Prelude.{◌≡◌, [], ◌∷◌, ◌+◌, ◌*◌, ◌%◌, ◌≤◌, ◌^◌, length, take, drop};
+ghost use Rattle.std.specs.Prelude.{◌≡◌, [], ◌∷◌, ◌+◌, ◌*◌, ◌%◌, ◌<◌, ◌≤◌, ◌^◌, length, take, drop};
 ghost use Rattle.words.specs.Numbers.{number_low, number_high, byte_of};
 
 // The word of four bytes, the lowest first. Two of std's conversions, this and the next, each under its own definition.
@@ -33,7 +33,7 @@ pub fn wide_at(s: &[u8], p: usize) -> u64
 }
 
 // Two words as one number, the low one first.
-fn joined(low: u32, high: u32) -> u64
+pub fn joined(low: u32, high: u32) -> u64
     ensures { result ≡ low + 2 ^ 32 * high }
 {
     u64::from(low) + (u64::from(high) << 32)
@@ -44,4 +44,11 @@ pub fn byte(x: u32, i: u32) -> u8
     ensures { result ≡ byte_of (i % 4) x }
 {
     x.to_le_bytes()[(i % 4) as usize]
+}
+
+// The same number: a call brings the bound of its type into the proof.
+pub fn bounded(x: u32) -> u32
+    ensures { (result ≡ x) × (result < 2 ^ 32) }
+{
+    x
 }
