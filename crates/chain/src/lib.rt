@@ -14,6 +14,7 @@ ghost use Rattle.chain.specs.Memory.{encrypted_in_place, encrypted_into, decrypt
 ghost use Rattle.chain.specs.Twofish.{twofish_cipher};
 
 use twofish::Schedule;
+use words::slices::copy;
 
 // Which of the two decides in `chained` alone: a trait of modes would have that one method twice, and a type parameter at every
 // function here.
@@ -57,6 +58,6 @@ pub fn cbc_encrypt(key: &[u8; 32], iv: &[u8; 16], from: &[u8], to: &mut [u8])
     if n % 16 != 0 || to.len() < n {
         return;
     }
-    to[..n].copy_from_slice(from);
+    copy(&mut to[..n], from);
     memory::encrypt(Mode::Cbc, key, iv, &mut to[..n]);
 }

@@ -5,6 +5,7 @@ ghost use Rattle.fields.specs.Stored.{stored, bytes_of};
 ghost use Rattle.fields.specs.Append.{append_of, buffer_after};
 
 use crate::{end_with_data, fill_for, misplaced};
+use words::slices::copy;
 
 // No field may end behind it.
 const LONGEST_BODY: usize = 4194096;
@@ -45,8 +46,8 @@ fn write(part: &mut [u8], kind: u8, content: &[u8], fill: &[u8])
     let (start, rest) = part.split_at_mut(5);
     let (middle, end) = rest.split_at_mut(content.len());
     start.copy_from_slice(&head(content.len(), kind));
-    middle.copy_from_slice(content);
-    end.copy_from_slice(fill);
+    copy(middle, content);
+    copy(end, fill);
 }
 
 // A field at a place of the buffer, and the next place; refused, nothing changes. Type, data and fill come apart, as in the C call talc_append: a struct of

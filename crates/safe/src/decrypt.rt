@@ -3,7 +3,7 @@ ghost use Rattle.std.specs.Prelude.{◌≡◌, length};
 ghost use Rattle.safe.specs.Steps.{Unwrapped, Measured, Decrypts};
 
 use super::Keys;
-use words::slices::first;
+use words::slices::{copy, first};
 
 // The keys, and the blocks decrypted so far.
 #[derive(Drop)]
@@ -33,7 +33,7 @@ pub fn decrypt(file: &[u8], key: &[u8; 32], work: &mut [u8]) -> Decrypted
     let Decrypted { keys, blocks } = unwrap(key, &file[72..136]);
     let iv = first::<16>(&file[136..152]);
     let e = file.len() - 48;
-    work.copy_from_slice(&file[152..e]);
+    copy(work, &file[152..e]);
     let blocks = chain::cbc_decrypt(&keys.k, &iv, work, blocks);
     Decrypted { keys, blocks }
 }

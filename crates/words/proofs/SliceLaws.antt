@@ -1,17 +1,26 @@
--- What a copy over as many bytes is, what a part put after another leaves, what a part of a start is, and what a comparison tells. By recursion on the
+-- What a copy as far as it has come is at the end, what a copy over as many bytes is, what a part put after another leaves, what a part of a start is, and what a comparison tells. By recursion on the
 -- list, and by the lengths of its parts.
 use mathlib.Core.Path.{◌≡◌, refl, sym, ap, ap₂, ◌∙◌}
 use mathlib.Core.Bool.{Bool, true, false, cond, ◌&&◌}
 use mathlib.Core.List.{List, [], ◌∷◌, ◌++◌, append_assoc, append-nil}
-use Prim.Native.Nat.{ℕ, zero, suc, ◌+◌, ◌≤◌}
+use Prim.Native.Nat.{ℕ, zero, suc, ◌+◌, ◌≤◌, min}
 use native.Mathlib.Omega.{arith}
+use native.Mathlib.Nat.{zero-add}
 use borrow.Rule.Slice.PartMut.{put_mid}
 use borrow.Author.Tests.{eq-eqb, eqb-true}
 use lib.Dec.{eqb}
 use lib.ListN.{length, take, drop, replicate, length-replicate, drop_of_length-le}
-use lib.Seq.{take_all, take_at, take-take, drop_at}
+use lib.Seq.{paste, take_all, take_at, take-take, drop_at}
+use Rattle.std.proofs.Math.Nat.{min_comm}
+use Rattle.std.proofs.lemmas.List.{take_min, drop_min}
 use Rattle.std.specs.Cmp.Lexicographic.{pointwise}
 use Rattle.words.specs.Slices.{copied, same}
+
+-- where the shorter of the two ends, all is copied that fits
+pub copied_most : (d s : List ℕ) (i : ℕ) → i ≡ min (length d) (length s) → paste d 0 s i ≡ copied d s
+copied_most d s i h =
+    ap₂ (λ (k n : ℕ). take k s ++ drop n d) h (zero-add i ∙ (h ∙ min_comm (length d) (length s)))
+    ∙ ap₂ ◌++◌ (take_min (length d) s) (drop_min (length s) d)
 
 -- a part over as many bytes, and a value over as many zeros
 pub copied_over : (d s : List ℕ) → length d ≡ length s → copied d s ≡ s

@@ -12,8 +12,10 @@ pub fn zero(s: &mut [u8])
 pub fn copy(to: &mut [u8], from: &[u8])
     ensures { to.new ≡ copied to.old from.now }
 {
-    let n = to.len().min(from.len());
-    to[..n].copy_from_slice(&from[..n]);
+    // By elements: std's copy_from_slice of any length is a memmove, which C would have to bring.
+    for i in 0..to.len().min(from.len()) {
+        to[i] = from[i];
+    }
 }
 
 pub fn same(a: &[u8], b: &[u8]) -> bool

@@ -1,6 +1,10 @@
 -- `chain::cbc_encrypt` meets its contract: the text is copied, and `memory::encrypt` in the mode CBC goes over the copy.
 use Rattle.chain.specs.Blocks.{mode_e}
-use Rattle.std.proofs.Common.{ℕ, List, ◌++◌, length, drop, ap}
+use Rattle.std.proofs.Common.{ℕ, List, ◌++◌, length, take, drop, ap}
+use mathlib.Core.Path.{◌∙◌}
+use native.Mathlib.Omega.{arith}
+use lib.Seq.{length-take-le}
+use Rattle.words.proofs.SliceLaws.{copied_over}
 use Rattle.chain.specs.Modes.{cbc_e}
 use Rattle.chain.specs.Twofish.{twofish_cipher}
 use Rattle.chain.proofs.MemoryLaws.{refused_into, too_short, all_into}
@@ -21,4 +25,7 @@ unfolding mode_e cbc_e
 returns c =
     let a = c.args in
     all_into (cbc_e twofish_cipher a.key.now) a.iv.now a.from.now a.to.now c.if-n-ne0.false c.if-to-n.false
-    (ap (λ (x : List ℕ). x ++ drop (length a.from.now) a.to.now) c.copy_from_slice.ensures.after) c.encrypt.ensures
+    (ap (λ (x : List ℕ). x ++ drop (length a.from.now) a.to.now)
+        (c.copy.ensures ∙ copied_over (take (length a.from.now) a.to.now) a.from.now
+            (length-take-le (length a.from.now) a.to.now (omega (arith, c.if-to-n.false)))))
+    c.encrypt.ensures

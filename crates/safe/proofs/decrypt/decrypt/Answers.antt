@@ -6,7 +6,7 @@ use lib.ListN.{length, take, drop, length-drop}
 use lib.Seq.{length-take-le}
 use Rattle.words.specs.Numbers.{Bytes}
 use Rattle.words.proofs.ByteLaws.{bytes_of}
-use Rattle.words.proofs.SliceLaws.{copied_whole}
+use Rattle.words.proofs.SliceLaws.{copied_over, copied_whole}
 use Rattle.file.specs.Layout.{split}
 use Rattle.safe.proofs.HandedOn.{body_decrypted_lem}
 use Rattle.safe.proofs.decrypt.decrypt.Goals as goal
@@ -21,5 +21,5 @@ returns c =
     let m : length f - 48 - 152 ≡ length f - 200 = omega arith in
     body_decrypted_lem f c.args.key.now _ _ _ bytes c.requires c.unwrap-blocks.ensures
     (c.first-iv.ensures ∙ copied_whole 16 (take 16 (drop 136 f)) (length-take-le 16 (drop 136 f) (omega (arith, c.requires.whole))))
-    (c.copy_from_slice.ensures.after ∙ ap (λ (k : ℕ). take k (drop 152 f)) m)
+    (c.copy.ensures ∙ (copied_over _ _ (omega (arith, c.requires.whole, d152)) ∙ ap (λ (k : ℕ). take k (drop 152 f)) m))
     c.cbc_decrypt-blocks.ensures
