@@ -8,13 +8,12 @@ use borrow.Author.Tests.{not-true, lt-ltb, le-ltb, ltb-false, ne_eqb, eqb-true, 
 use lib.ListN.{length, take, drop, length-drop}
 use lib.Dec.{ltb, eqb, eqb-zero-suc, eqb-suc-suc}
 use lib.Seq.{drop-drop, take_at, take-append-le, drop-append-le}
-use Rattle.std.specs.Cmp.Lexicographic.{pointwise}
 use Rattle.std.specs.List.{position_or_len}
 use Rattle.std.specs.Simd.{first_chunks}
 use Rattle.std.specs.Prelude.{Some, None, is_some}
 use Rattle.std.specs.Option.{option_eq}
 use Rattle.words.specs.Slices.{same}
-use Rattle.words.proofs.SliceLaws.{same_true, same_refl, same_pointwise}
+use Rattle.words.proofs.SliceLaws.{same_true, same_refl}
 use Rattle.file.specs.Layout.{marker, first_marker, marked_at}
 use Rattle.file.specs.Writing.{clear}
 use Rattle.file.proofs.Glue.{and_true}
@@ -96,11 +95,11 @@ one_block : (t u : Bool) (k n : ℕ) → t ≡ u → k ≡ n → cond (not t) (1
 one_block true u k n e f = rw (← e) refl
 one_block false u k n e f = rw (← e) (omega arith)
 
-pub searched : (m : List ℕ) → m ≡ marker → (n : ℕ) (l : List ℕ) → position_or_len (λ b. pointwise eqb b m) (first_chunks 16 n l) ≡ first_marker n l
+pub searched : (m : List ℕ) → m ≡ marker → (n : ℕ) (l : List ℕ) → position_or_len (λ b. same b m) (first_chunks 16 n l) ≡ first_marker n l
 unfolding first_marker
 searched m e zero l = refl
 searched m e (suc n) l =
-    one_block _ _ _ _ (same_pointwise (take 16 l) m ∙ ap (same (take 16 l)) e) (searched m e n (drop 16 l))
+    one_block _ _ _ _ (ap (same (take 16 l)) e) (searched m e n (drop 16 l))
 
 -- none of n blocks is the marker exactly where the scan comes to n
 first_clear : (b : Bool) (k n : ℕ) → eqb (cond b 0 (suc k)) (suc n) ≡ not b && eqb k n

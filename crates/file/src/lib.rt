@@ -6,6 +6,8 @@ ghost use Rattle.file.specs.Layout.{marker as marker_of, marked_at};
 ghost use Rattle.file.specs.Reading.{bad_length};
 ghost use Rattle.file.specs.Writing.{bad_body};
 
+use words::slices::same_16;
+
 // Refusal 1 of a file of n bytes.
 #[tactic(auto, unfolding(crate::specs::Reading::bad_length))]
 pub fn bad_length(n: usize) -> bool
@@ -35,5 +37,5 @@ pub fn first_marker(s: &[u8]) -> Option<usize>
 {
     let m = marker();
     let (blocks, _) = s.as_chunks::<16>();
-    blocks.iter().position(|b| *b == m)
+    blocks.iter().position(|b| same_16(b, &m))
 }

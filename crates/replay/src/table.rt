@@ -3,6 +3,7 @@ ghost use Rattle.std.specs.Prelude.{◌≡◌, ◌<◌};
 ghost use Rattle.replay.specs.State.{is_state, entry_at, put, stops as stops_of, found_in};
 
 use crate::entry;
+use words::slices::same_16;
 
 // Bytes, and not 4,096 entries: C lends them so, and files hold them (clause TalcReplay).
 pub type State = [u8; 131072];
@@ -33,13 +34,13 @@ pub fn put(state: &mut State, i: usize, e: &[u8; 32])
 }
 
 // The look-up of a UUID ends at entry i.
-#[tactic(auto, using(words::proofs::SliceLaws::same_pointwise), unfolding(crate::specs::State::stops))]
+#[tactic(auto, unfolding(crate::specs::State::stops))]
 fn stops(state: &State, uuid: &[u8; 16], i: usize) -> bool
     requires { i < 4096 }
     ensures { result ≡ stops_of state.now uuid.now i }
 {
     let e = entry(state, i);
-    entry::cancel(e) == 0 || entry::uuid(e) == uuid
+    entry::cancel(e) == 0 || same_16(entry::uuid(e), uuid)
 }
 
 // The entry of a UUID, or the free one that it would take.

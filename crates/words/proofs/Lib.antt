@@ -4,6 +4,7 @@ pub mod Conversions
 pub mod RotationLaws
 pub mod XorLaws
 pub mod SliceLaws
+pub mod Halves
 pub mod Either
 pub mod Every
 pub mod Places

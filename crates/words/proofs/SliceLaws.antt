@@ -71,9 +71,12 @@ same_true (a ∷ s) (b ∷ t) h =
     let g = both (eqb a b) (same s t) h in
     ap₂ ◌∷◌ (eqb-true a b g.0) (same_true s t g.1)
 
-pub length_differs : (s t : List ℕ) → (length s ≡ length t → ⊥) → false ≡ same s t
-length_differs s t h = go (same s t) refl
+pub same_false : (s t : List ℕ) → (s ≡ t → ⊥) → false ≡ same s t
+same_false s t h = go (same s t) refl
   where
     go : (b : Bool) → same s t ≡ b → false ≡ b
-    go true e = absurd (h (ap length (same_true s t e)))
+    go true e = absurd (h (same_true s t e))
     go false e = refl
+
+pub length_differs : (s t : List ℕ) → (length s ≡ length t → ⊥) → false ≡ same s t
+length_differs s t h = same_false s t (λ e. h (ap length e))
