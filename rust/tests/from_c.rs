@@ -21,6 +21,15 @@ fn every_call() {
     }
 }
 
+/// Linked whole, the library needs nothing from outside but what alone.c has; nor does the probe.
+#[test]
+fn memcpy_and_memset_alone() {
+    let alone = ["-std=c99", "-ffreestanding", "-nostdlib", "-static", "-Wl,--whole-archive"];
+    for probe in [&[][..], &["target/staticlib/libprobe.a"]] {
+        compiled(&[&alone, probe].concat(), "rust/tests/alone.c");
+    }
+}
+
 /// What `told` says of these numbers, a line each; what it says behind them is the same each time.
 fn lines(what: &str, numbers: &[u64]) -> Vec<String> {
     let words: Vec<String> = numbers.iter().map(u64::to_string).collect();
