@@ -26,6 +26,6 @@ returns c =
     let a = c.args in
     all_into (cbc_e twofish_cipher a.key.now) a.iv.now a.from.now a.to.now c.if-n-ne0.false c.if-to-n.false
     (ap (λ (x : List ℕ). x ++ drop (length a.from.now) a.to.now)
-        (c.copy.ensures ∙ copied_over (take (length a.from.now) a.to.now) a.from.now
-            (length-take-le (length a.from.now) a.to.now (omega (arith, c.if-to-n.false)))))
+    (c.copy.ensures ∙ copied_over (take (length a.from.now) a.to.now) a.from.now
+    (length-take-le (length a.from.now) a.to.now (omega (arith, c.if-to-n.false)))))
     c.encrypt.ensures
